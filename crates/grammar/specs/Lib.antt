@@ -1,0 +1,3 @@
+pub mod Pattern
+pub mod Measures
+pub mod Schema

@@ -1,0 +1,32 @@
+//! What patterns and operations are told apart by.
+
+/// Whether the members of a pair or of a repetition follow one another.
+#[derive(Clone, Copy)]
+pub enum Order {
+    /// Each top event of an earlier member precedes each of a later one.
+    InOrder,
+    /// No precedence is added.
+    AsSet,
+}
+
+/// All events of type `event` strictly inside root number `root`, counted from 0, in laying order.
+#[derive(Clone, Copy)]
+pub struct Selection {
+    pub root: u8,
+    pub event: u8,
+}
+
+/// What an operation does with two selections A and B, or demands of them.
+#[derive(Clone, Copy)]
+pub enum Relation {
+    /// SHARE ALL: the k-th A and the k-th B are one event.
+    Share,
+    /// COORDINATE: the k-th A precedes the k-th B.
+    Coordinate,
+    /// There are as many A as B.
+    AsMany,
+    /// There are at most as many A as B.
+    NoMore,
+    /// Before each A there are fewer A than B.
+    FewerBefore,
+}

@@ -1,0 +1,35 @@
+//! A refusal, and the line that shows it.
+
+ghost use mathlib.Core.Path.{_≡_};
+ghost use Rattle.std.specs.declared.option.Option.the-variants.{Some};
+ghost use Rattle.questions.specs.Numbers.{number-of, refusal-line};
+use crate::question::Question;
+use crate::question::QuestionPartialEq;
+use std::fmt;
+
+/// The first question with a "no", and the index of the item that it was asked of, 255 where no item is meant.
+#[derive(Clone, Copy, PartialEq, Eq)]
+pub struct Refusal {
+    pub question: Question,
+    pub item: u8,
+}
+
+impl Question {
+    /// The number of the question.
+    pub fn number(self) -> u8
+        ensures { λ r. ⌜ r ≡ number-of self ⌝ }
+    {
+        self as u8
+    }
+}
+
+/// `no QUESTION ITEM`, in decimal.
+pub impl fmt::Display for Refusal as RefusalDisplay {
+    ghost shown = { λ r. Some (refusal-line r) };
+
+    fn fmt<W: fmt::Write>(&self, f: &mut fmt::Formatter<W>) -> fmt::Result {
+        let question = self.question.number();
+        let item = self.item;
+        write!(f, "no {question} {item}")
+    }
+}

@@ -1,0 +1,4 @@
+mod Waiting
+mod Passing
+mod Steps
+mod Verdicts

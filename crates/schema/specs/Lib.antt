@@ -1,0 +1,8 @@
+pub mod Items
+pub mod Reading
+pub mod Plans
+pub mod Questions
+pub mod Writing
+pub mod Within
+pub mod Promises
+pub mod Progress

@@ -1,0 +1,181 @@
+//! One more item: measured, counted, and its root planned.
+
+ghost use mathlib.Core.Path.{_≡_};
+ghost use Prim.Native.Nat.{ℕ, suc, _+_, _<_, _≤_};
+ghost use mathlib.Core.List.{List};
+ghost use lib.ListN.{length, set, replicate};
+ghost use Rattle.questions.specs.Limits.{most-items, most-roots, most-candidates, most-events};
+ghost use Rattle.std.specs.declared.option.Option.the-variants.{None};
+ghost use Rattle.grammar.specs.Measures.{measure-of};
+ghost use Rattle.schema.specs.Items.{item-count, root-count};
+ghost use Rattle.schema.specs.Plans.{no-root};
+ghost use Rattle.schema.specs.Questions.{asked-at, made-at, asks};
+ghost use Rattle.schema.specs.Progress.{Sized, Knows, Counted, Holds};
+use crate::ask::ask_measure;
+use crate::ask::ask_sharing;
+use crate::item::Item;
+use crate::known::Known;
+use crate::plan::Plan;
+use crate::plan::Root;
+use crate::progress::Progress;
+use crate::read::argument_at;
+use crate::read::item_at;
+use crate::read::measure_of;
+use grammar::Measure;
+use grammar::Selection;
+use grammar::measure::product_capped;
+use questions::Question;
+
+impl Plan {
+    fn empty() -> Plan
+        ensures { λ r. ⌜ r .roots ≡ replicate most-roots no-root ⌝ }
+    {
+        let none = Root {
+            event: 0,
+            item: 0,
+            count: 0,
+            length: 0,
+        };
+        Plan { roots: [none; 8] }
+    }
+
+    /// Fills the entry of a root that closes.
+    fn close(&mut self, r: usize, root: Root)
+        requires { ⌜ r < most-roots ⌝ }
+        ensures { λ _. ⌜ now (self .exit) .roots ≡ set (now (self .entry) .roots) r root ⌝ }
+    {
+        self.roots[r] = root;
+    }
+}
+
+impl Known {
+    fn none() -> Known
+        ensures { λ r. ⌜ r .len ≡ 0 ⌝ }
+    {
+        let none = Measure {
+            items: 0,
+            count: 0,
+            length: 0,
+        };
+        Known {
+            measures: [none; 255],
+            len: 0,
+        }
+    }
+
+    /// The measure of one more item.
+    fn push(&mut self, m: Measure)
+        requires { ⌜ now self .len < most-items ⌝ }
+        ensures len { λ _. ⌜ now (self .exit) .len ≡ now (self .entry) .len + 1 ⌝ }
+        ensures room { λ _. ⌜ length (now (self .entry) .measures) ≡ most-items ⌝ }
+        ensures measures { λ _. ⌜ now (self .exit) .measures ≡ set (now (self .entry) .measures) (now (self .entry) .len) m ⌝ }
+    {
+        self.measures[self.len] = m;
+        self.len += 1;
+    }
+}
+
+impl Progress {
+    pub(crate) fn start(scope: u8, roots: usize) -> Progress
+        ensures scope { λ r. ⌜ r .scope ≡ scope ⌝ }
+        ensures holds { λ r. ⌜ ((b : List ℕ) → roots ≡ root-count b → Holds b 0 r) ⌝ }
+    {
+        let none = Selection { root: 0, event: 0 };
+        Progress {
+            scope,
+            roots,
+            waiting: 0,
+            closed: 0,
+            picks: 0,
+            earlier: none,
+            later: none,
+            total: 1,
+            length: 0,
+            plan: Plan::empty(),
+            known: Known::none(),
+        }
+    }
+
+    /// The measure of what item `i` makes, which has passed questions 4 to 6: a pattern, a root's event, or else nothing.
+    fn measure_made(&self, table: &[u8], i: usize) -> Measure
+        requires sized { ⌜ Sized (now table) ⌝ }
+        requires within { ⌜ i < item-count (now table) ⌝ }
+        requires knows { ⌜ Knows (now table) (now self .scope) (now self .known) ⌝ }
+        requires passed { ⌜ asked-at (now table) (now self .scope) i ≡ None ⌝ }
+        ensures { λ r. ⌜ r ≡ measure-of (now (self .entry) .scope) (made-at (now (table .entry)) i) ⌝ }
+    {
+        match item_at(table, i) {
+            Item::Root(_) => measure_of(table, self.scope, &self.known, i - 1).inside(),
+            Item::Pick(_) | Item::Relate(_) | Item::AtMost(_) | Item::Unknown => Measure::nothing(),
+            _ => measure_of(table, self.scope, &self.known, i),
+        }
+    }
+
+    /// Counts item `i`, which has passed, and whose measure is `m`.
+    fn settle(&mut self, table: &[u8], i: usize, m: Measure)
+        requires sized { ⌜ Sized (now table) ⌝ }
+        requires within { ⌜ i < item-count (now table) ⌝ }
+        requires counted { ⌜ Counted (now table) i (now self) ⌝ }
+        requires passed { ⌜ asked-at (now table) (now self .scope) i ≡ None ⌝ }
+        requires measured { ⌜ m ≡ measure-of (now self .scope) (made-at (now table) i) ⌝ ∗ ⌜ m .count ≤ most-candidates ⌝ ∗ ⌜ m .length ≤ most-events ⌝ }
+        ensures counted { λ _. ⌜ Counted (now (table .entry)) (suc i) (now (self .exit)) ⌝ }
+        ensures scope { λ _. ⌜ now (self .exit) .scope ≡ now (self .entry) .scope ⌝ }
+        ensures known { λ _. ⌜ now (self .exit) .known ≡ now (self .entry) .known ⌝ }
+    {
+        match item_at(table, i) {
+            Item::Nothing | Item::Atom(_) => self.waiting += 1,
+            Item::Event(_) | Item::Repeat(_, _, _) => {}
+            Item::Both(_) | Item::Either => self.waiting -= 1,
+            Item::Root(event) => {
+                let root = Root {
+                    event: event as u8,
+                    item: i as u8,
+                    count: m.count,
+                    length: m.length,
+                };
+                self.plan.close(self.closed, root);
+                self.closed += 1;
+                self.total = product_capped(self.total, m.count);
+                self.length += u32::from(m.length);
+                self.waiting = 0;
+            }
+            Item::Pick(x) => {
+                self.earlier = self.later;
+                self.later = x;
+                self.picks += 1;
+            }
+            Item::Relate(_) | Item::AtMost(_) => {
+                self.earlier = Selection { root: 0, event: 0 };
+                self.later = Selection { root: 0, event: 0 };
+                self.picks = 0;
+            }
+            Item::Unknown => {}
+        }
+    }
+
+    /// Asks questions 4 to 9 of item `i`, and counts it where none has a "no".
+    pub(crate) fn take(&mut self, table: &[u8], i: usize) -> Option<Question>
+        requires sized { ⌜ Sized (now table) ⌝ }
+        requires within { ⌜ i < item-count (now table) ⌝ }
+        requires holds { ⌜ Holds (now table) i (now self) ⌝ }
+        ensures answer { λ r. ⌜ r ≡ asks (now (table .entry)) (now (self .entry) .scope) i ⌝ }
+        ensures scope { λ r. ⌜ (r ≡ None → now (self .exit) .scope ≡ now (self .entry) .scope) ⌝ }
+        ensures goes { λ r. ⌜ (r ≡ None → Holds (now (table .entry)) (suc i) (now (self .exit))) ⌝ }
+    {
+        let kind = table[4 + i];
+        let argument = argument_at(table, i);
+        if let Some(q) = self.ask(kind, argument) {
+            return Some(q);
+        }
+        if let Some(q) = ask_sharing(table, kind, self.earlier, self.later) {
+            return Some(q);
+        }
+        let m = self.measure_made(table, i);
+        if let Some(q) = ask_measure(m) {
+            return Some(q);
+        }
+        self.known.push(m);
+        self.settle(table, i, m);
+        None
+    }
+}
