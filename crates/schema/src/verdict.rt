@@ -15,6 +15,7 @@ use questions::limits::NO_ITEM;
 pub fn check(table: &[u8], scope: u8, plan: &mut Plan) -> Result<u32, Refusal>
     ensures answer { λ r. ⌜ r ≡ verdict (now (table .entry)) scope ⌝ }
     ensures plan { λ _. ⌜ now (plan .exit) ≡ planned (now (table .entry)) scope (now (plan .entry)) ⌝ }
+    ensures schema { λ r. ⌜ Tables-are-schemas (now (table .entry)) scope r (now (plan .exit)) ⌝ }
 {
     if let Some(question) = ask_opening(table, scope) {
         return Err(Refusal {

@@ -1,5 +1,9 @@
-use Prim.Native.Nat.{_-_, _<_}
+use Prim.Native.Nat.{ℕ, _-_, _<_}
 use mathlib.Core.Path.{_≡_, sym, ap, ap₂, _∙_}
+use mathlib.Core.List.{List}
+use lib.ListN.{getD}
+use mir.Val.{Fits}
+use mir.Syntax.{w8}
 use native.Mathlib.Omega.{arith}
 use native.Mathlib.Numerals.{add-one}
 use Rattle.std.specs.declared.result.Result.the-variants.{Ok}
@@ -10,12 +14,18 @@ use Rattle.schema.specs.Plans.{plan-of}
 use Rattle.schema.specs.Questions.{asks, closing-at, answered, from, verdict}
 use Rattle.std.specs.declared.option.Option.the-variants.{Some, None}
 use Rattle.schema.proofs.Verdicts.{opened, opened-sized, verdict-no, verdict-from, from-no, from-more, from-last, planned-no, planned-yes, closing-is, ended}
+use Rattle.schema.proofs.Coding.{Bytes}
+use Rattle.schema.proofs.Tables.{tables-are-schemas}
 use Rattle.schema.proofs.verdict.check.Needs as need
+
+bytes : (b : List ℕ) → ((i : ℕ) → Fits w8 (getD b i 0)) → Bytes b
+bytes b f i = omega (arith, f i)
 
 pub returns-in-Some : need.returns-in-Some
 returns-in-Some c =
     let v = verdict-no (c .args .table .now) (c .args .scope) (c .in-Some .question) (sym (c .ask-opening .ensures) ∙ c .in-Some .is) in
-    record { answer = sym v; plan = planned-no (c .args .table .now) (c .args .scope) (c .args .plan .now) _ v }
+    let p = planned-no (c .args .table .now) (c .args .scope) (c .args .plan .now) _ v in
+    record { answer = sym v; plan = p; schema = tables-are-schemas (c .args .table .now) (c .args .scope) (bytes (c .args .table .now) (c .typed .table)) _ (sym v) (c .args .plan .now) _ p }
 
 pub loop-i-holds : need.loop-i-holds
 loop-i-holds c = (
@@ -42,7 +52,8 @@ returns-in-Some-take c =
     let a : asks (c .args .table .now) (c .args .scope) (c .loop-i .i) ≡ Some (c .in-Some-take .question) =
     ap (λ s. asks (c .args .table .now) s (c .loop-i .i)) (sym (c .loop-i .inv .1)) ∙ (sym (c .take .ensures .answer) ∙ c .in-Some-take .is) in
     let v = c .loop-i .inv .2 ∙ from-no (c .args .table .now) (c .args .scope) (c .loop-i .i) (item-count (c .args .table .now)) (c .in-Some-take .question) lt a in
-    record { answer = sym v; plan = planned-no (c .args .table .now) (c .args .scope) (c .args .plan .now) _ v }
+    let p = planned-no (c .args .table .now) (c .args .scope) (c .args .plan .now) _ v in
+    record { answer = sym v; plan = p; schema = tables-are-schemas (c .args .table .now) (c .args .scope) (bytes (c .args .table .now) (c .typed .table)) _ (sym v) (c .args .plan .now) _ p }
 
 pub loop-i-again : need.loop-i-again
 loop-i-again c =
@@ -62,7 +73,8 @@ returns-in-Some-ask-closing c =
     let k : closing-at b (c .args .scope) ≡ Some (c .in-Some-ask-closing .question) =
     ap (closing-at b) (sym (c .loop-i .inv .1)) ∙ (sym (closing-is (c .args .table .now) (c .loop-i .i) (c .loop-i .progress) (c .loop-i .inv .0 .counted) e) ∙ (sym (c .ask-closing .ensures) ∙ c .in-Some-ask-closing .is)) in
     let v = c .loop-i .inv .2 ∙ (from-last (c .args .table .now) (c .args .scope) (c .loop-i .i) e ∙ ap (λ o. answered o 255 (Ok (candidates (c .args .scope) (schema-of b .roots)))) k) in
-    record { answer = sym v; plan = planned-no (c .args .table .now) (c .args .scope) (c .args .plan .now) _ v }
+    let p = planned-no (c .args .table .now) (c .args .scope) (c .args .plan .now) _ v in
+    record { answer = sym v; plan = p; schema = tables-are-schemas (c .args .table .now) (c .args .scope) (bytes (c .args .table .now) (c .typed .table)) _ (sym v) (c .args .plan .now) _ p }
 
 pub returns : need.returns
 returns c =
@@ -79,4 +91,6 @@ returns c =
     let t : g .total ≡ candidates (g .scope) (state b (c .loop-i .i) .roots) = omega (arith, d .total, h .total) in
     let t2 : g .total ≡ candidates s (schema-of b .roots) = t ∙ ap₂ (λ x j. candidates x (state b j .roots)) (c .loop-i .inv .1) e in
     let p : g .plan ≡ plan-of s (schema-of b .roots) = h .plan ∙ ap₂ (λ x j. plan-of x (state b j .roots)) (c .loop-i .inv .1) e in
-    record { answer = ap Ok t2 ∙ sym v; plan = p ∙ sym (planned-yes (c .args .table .now) (c .args .scope) (candidates s (schema-of b .roots)) (c .args .plan .now) v) }
+    let q = p ∙ sym (planned-yes (c .args .table .now) (c .args .scope) (candidates s (schema-of b .roots)) (c .args .plan .now) v) in
+    let a = ap Ok t2 ∙ sym v in
+    record { answer = a; plan = q; schema = tables-are-schemas (c .args .table .now) (c .args .scope) (bytes (c .args .table .now) (c .typed .table)) _ a (c .args .plan .now) _ q }
