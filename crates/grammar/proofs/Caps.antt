@@ -5,6 +5,7 @@ use mathlib.Core.Logic.{_⊎_, inl, inr}
 use native.Mathlib.Omega.{arith}
 use native.Mathlib.Nat.{mul-zero, mul-comm, le-mul-of-pos-right, pow-zero, pow-suc, add-assoc}
 use Rattle.std.proofs.shelf.Tests.{cases-lt}
+use Rattle.questions.specs.Limits.{most-candidates}
 use Rattle.grammar.specs.Pattern.{powers}
 use Rattle.grammar.specs.Measures.{count-capped}
 
@@ -25,10 +26,10 @@ pub min-mul-right : (m x y : ℕ) → min (x * min y m) m ≡ min (x * y) m
 min-mul-right m x y = ap (λ z. min z m) (mul-comm x (min y m)) ∙ (min-mul-left m y x ∙ ap (λ z. min z m) (mul-comm y x))
 
 pub capped-mul : (x y : ℕ) → count-capped (count-capped x * count-capped y) ≡ count-capped (x * y)
-capped-mul x y = min-mul-left 1000001 x (count-capped y) ∙ min-mul-right 1000001 x y
+capped-mul x y = min-mul-left (most-candidates + 1) x (count-capped y) ∙ min-mul-right (most-candidates + 1) x y
 
 pub capped-power-more : (c k : ℕ) → count-capped (count-capped (c ^ k) * c) ≡ count-capped (c ^ (k + 1))
-capped-power-more c k = min-mul-left 1000001 (c ^ k) c ∙ ap count-capped (sym (pow-suc c k) ∙ ap (λ i. c ^ i) {x = suc k} {y = k + 1} (omega arith))
+capped-power-more c k = min-mul-left (most-candidates + 1) (c ^ k) c ∙ ap count-capped (sym (pow-suc c k) ∙ ap (λ i. c ^ i) {x = suc k} {y = k + 1} (omega arith))
 
 pub powers-more : (c m a : ℕ) → powers c (suc m) a ≡ powers c m a + c ^ (a + m)
 powers-more c zero a = let e : a + 0 ≡ a = omega arith in rw e (omega arith)
@@ -37,7 +38,7 @@ powers-more c (suc m) a =
 
 capped-power : (c k : ℕ) → count-capped (count-capped c ^ k) ≡ count-capped (c ^ k)
 capped-power c zero = rw (pow-zero, pow-zero) refl
-capped-power c (suc k) = rw (pow-suc, pow-suc) (sym (min-mul-left 1000001 (count-capped c ^ k) (count-capped c)) ∙ (ap (λ z. count-capped (z * count-capped c)) (capped-power c k) ∙ capped-mul (c ^ k) c))
+capped-power c (suc k) = rw (pow-suc, pow-suc) (sym (min-mul-left (most-candidates + 1) (count-capped c ^ k) (count-capped c)) ∙ (ap (λ z. count-capped (z * count-capped c)) (capped-power c k) ∙ capped-mul (c ^ k) c))
 
 pub capped-powers : (c m a : ℕ) → count-capped (powers (count-capped c) m a) ≡ count-capped (powers c m a)
 capped-powers c zero a = refl

@@ -2,6 +2,7 @@
 use Prim.Native.Nat.{ℕ, min, max, _+_, _*_}
 use mathlib.Core.Path.{_≡_, refl, sym, ap, ap₂, _∙_}
 use native.Mathlib.Omega.{arith}
+use Rattle.questions.specs.Limits.{most-events}
 use Rattle.grammar.specs.Pattern.{Pattern, nothing, atom, event, both, either, repeat, most, powers, span, count, len, size}
 use Rattle.grammar.specs.Measures.{items-capped, count-capped, length-capped, measure-of, nothing-measure, atom-measure, inside-measure, both-measure, either-measure, repeat-measure}
 use Rattle.grammar.specs.declared.measure.Measure.{Measure}
@@ -21,4 +22,4 @@ pub either-measures : (s : ℕ) (p q : Pattern) → either-measure (measure-of s
 either-measures s p q = made (omega arith) (omega arith) (omega arith)
 
 pub repeat-measures : (s : ℕ) (o : Order) (a b : ℕ) (p : Pattern) → repeat-measure a (most s b) (measure-of s p) ≡ measure-of s (repeat o a b p)
-repeat-measures s o a b p = made (omega arith) (capped-powers (count s p) (span a (most s b)) a) (min-mul-right 65 (most s b) (len s p))
+repeat-measures s o a b p = made (omega arith) (capped-powers (count s p) (span a (most s b)) a) (min-mul-right (most-events + 1) (most s b) (len s p))

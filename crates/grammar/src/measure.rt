@@ -24,7 +24,7 @@ pub struct Measure {
 fn items_capped(n: u32) -> u16
     ensures { λ r. ⌜ r ≡ items-capped n ⌝ }
 {
-    n.min(u32::from(MOST_ITEMS) + 1) as u16
+    n.min(MOST_ITEMS as u32 + 1) as u16
 }
 
 /// A number of choices, as far as one past the limit.

@@ -1,10 +1,10 @@
 //! The limits of a schema. Each stands once in the code, here, and once in the definitions, in specs/Limits.antt.
 
 /// How many items a table has at most.
-pub const MOST_ITEMS: u16 = 255;
+pub const MOST_ITEMS: usize = 255;
 
 /// How many roots a schema has at most.
-pub const MOST_ROOTS: u16 = 8;
+pub const MOST_ROOTS: usize = 8;
 
 /// The largest scope.
 pub const MOST_SCOPE: u8 = 5;

@@ -1,7 +1,7 @@
 mod Waiting
 mod Passing
 mod Steps
-mod Verdicts
+pub mod Verdicts
 mod Advance
 mod Through
 mod Coding

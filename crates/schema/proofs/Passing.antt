@@ -10,6 +10,7 @@ use lib.ListN.{length}
 use Rattle.std.proofs.shelf.Tests.{and-parts, and-from, or-cases, or-left, or-right, ltb-true, leb-true, eqb-true, lt-ltb, le-leb, eq-eqb}
 use Rattle.std.specs.declared.option.Option.{Option}
 use Rattle.std.specs.declared.option.Option.the-variants.{Some, None}
+use Rattle.questions.specs.Limits.{most-type, most-times, scope-mark, most-events}
 use Rattle.questions.specs.declared.question.Question.{Question}
 use Rattle.questions.specs.declared.question.Question.the-variants.{Kind, Argument, Takes}
 use Rattle.grammar.specs.Pattern.{Pattern, most}
@@ -26,15 +27,15 @@ use Rattle.schema.specs.declared.item.Item.the-variants.{Nothing, Atom, Event,
 -- the argument suits the item, at scope s and with r roots
 abbrev pub Suited : ℕ → ℕ → Item → Type 0
 Suited s r Nothing = Unit {0}
-Suited s r (Atom t) = t ≤ 99
-Suited s r (Event t) = t ≤ 99
+Suited s r (Atom t) = t ≤ most-type
+Suited s r (Event t) = t ≤ most-type
 Suited s r (Both o) = Unit {0}
 Suited s r Either = Unit {0}
 Suited s r (Repeat o x y) = Repeats s x y
-Suited s r (Root t) = t ≤ 99
+Suited s r (Root t) = t ≤ most-type
 Suited s r (Pick x) = Selects r x
 Suited s r (Relate o) = Unit {0}
-Suited s r (AtMost n) = n ≤ 64
+Suited s r (AtMost n) = n ≤ most-events
 Suited s r Unknown = ⊥
 
 -- the item finds what it takes, where c of r roots are closed, w patterns wait and p picks
@@ -61,17 +62,17 @@ pub record Passed (s r c w p k a : ℕ) (it : Item) : Type 0 where
 repeats : (s a : ℕ) → counts-suit s a ≡ true → Repeats s (a % 256) (a / 256)
 unfolding counts-suit
 repeats s a e =
-    let h = and-parts (leb (a % 256) 15) ((leb (a / 256) 15 || eqb (a / 256) 255) && leb (a % 256) (most s (a / 256))) e in
-    let g = and-parts (leb (a / 256) 15 || eqb (a / 256) 255) (leb (a % 256) (most s (a / 256))) (h .1) in
-    (leb-true (a % 256) 15 (h .0), go (or-cases (leb (a / 256) 15) (eqb (a / 256) 255) (g .0)), leb-true (a % 256) (most s (a / 256)) (g .1))
+    let h = and-parts (leb (a % 256) most-times) ((leb (a / 256) most-times || eqb (a / 256) scope-mark) && leb (a % 256) (most s (a / 256))) e in
+    let g = and-parts (leb (a / 256) most-times || eqb (a / 256) scope-mark) (leb (a % 256) (most s (a / 256))) (h .1) in
+    (leb-true (a % 256) most-times (h .0), go (or-cases (leb (a / 256) most-times) (eqb (a / 256) scope-mark) (g .0)), leb-true (a % 256) (most s (a / 256)) (g .1))
   where
-    go : (leb (a / 256) 15 ≡ true) ⊎ (eqb (a / 256) 255 ≡ true) → (a / 256 ≤ 15) ⊎ (a / 256 ≡ 255)
-    go (inl e) = inl (leb-true (a / 256) 15 e)
-    go (inr e) = inr (eqb-true (a / 256) 255 e)
+    go : (leb (a / 256) most-times ≡ true) ⊎ (eqb (a / 256) scope-mark ≡ true) → (a / 256 ≤ most-times) ⊎ (a / 256 ≡ scope-mark)
+    go (inl e) = inl (leb-true (a / 256) most-times e)
+    go (inr e) = inr (eqb-true (a / 256) scope-mark e)
 
 selects : (r a : ℕ) → pick-suits r a ≡ true → Selects r (selection a)
 unfolding pick-suits
-selects r a e = let h = and-parts (ltb (a / 256) r) (leb (a % 256) 99) e in (ltb-true (a / 256) r (h .0), leb-true (a % 256) 99 (h .1))
+selects r a e = let h = and-parts (ltb (a / 256) r) (leb (a % 256) most-type) e in (ltb-true (a / 256) r (h .0), leb-true (a % 256) most-type (h .1))
 
 module _ (s r c w p : ℕ) where
   early : (n : ℕ) → (ltb c r && leb n w) ≡ true → (c < r) × (n ≤ w)
@@ -89,8 +90,8 @@ module _ (s r c w p : ℕ) where
   -- each kind at a time
   passed : (k a : ℕ) → k ≤ 15 → suits s r k a ≡ true → finds r c w p k ≡ true → Passed s r c w p k a (item-of k a)
   passed zero a h u f = record { suited = tt; found = anywhere f; kind = refl; argument = no-argument a u }
-  passed (suc zero) a h u f = record { suited = leb-true a 99 u; found = anywhere f; kind = refl; argument = refl }
-  passed (suc (suc zero)) a h u f = record { suited = leb-true a 99 u; found = early 1 f; kind = refl; argument = refl }
+  passed (suc zero) a h u f = record { suited = leb-true a most-type u; found = anywhere f; kind = refl; argument = refl }
+  passed (suc (suc zero)) a h u f = record { suited = leb-true a most-type u; found = early 1 f; kind = refl; argument = refl }
   passed (suc (suc (suc zero))) a h u f = record { suited = tt; found = early 2 f; kind = refl; argument = no-argument a u }
   passed (suc (suc (suc (suc zero)))) a h u f = record { suited = tt; found = early 2 f; kind = refl; argument = no-argument a u }
   passed (suc (suc (suc (suc (suc zero))))) a h u f = record { suited = tt; found = early 2 f; kind = refl; argument = no-argument a u }
@@ -98,7 +99,7 @@ module _ (s r c w p : ℕ) where
   passed (suc (suc (suc (suc (suc (suc (suc zero))))))) a h u f = record { suited = repeats s a u; found = early 1 f; kind = refl; argument = omega arith }
   passed (suc (suc (suc (suc (suc (suc (suc (suc zero)))))))) a h u f =
       let g = and-parts (ltb c r) (eqb w 1) f in
-      record { suited = leb-true a 99 u; found = (ltb-true c r (g .0), eqb-true w 1 (g .1)); kind = refl; argument = refl }
+      record { suited = leb-true a most-type u; found = (ltb-true c r (g .0), eqb-true w 1 (g .1)); kind = refl; argument = refl }
   passed (suc (suc (suc (suc (suc (suc (suc (suc (suc zero))))))))) a h u f =
       let g = and-parts (eqb c r) (leb p 1) f in
       record { suited = selects r a u; found = (eqb-true c r (g .0), leb-true p 1 (g .1)); kind = refl; argument = omega arith }
@@ -106,7 +107,7 @@ module _ (s r c w p : ℕ) where
   passed (suc (suc (suc (suc (suc (suc (suc (suc (suc (suc (suc zero))))))))))) a h u f = record { suited = tt; found = late 2 f; kind = refl; argument = no-argument a u }
   passed (suc (suc (suc (suc (suc (suc (suc (suc (suc (suc (suc (suc zero)))))))))))) a h u f = record { suited = tt; found = late 2 f; kind = refl; argument = no-argument a u }
   passed (suc (suc (suc (suc (suc (suc (suc (suc (suc (suc (suc (suc (suc zero))))))))))))) a h u f = record { suited = tt; found = late 2 f; kind = refl; argument = no-argument a u }
-  passed (suc (suc (suc (suc (suc (suc (suc (suc (suc (suc (suc (suc (suc (suc zero)))))))))))))) a h u f = record { suited = leb-true a 64 u; found = late 1 f; kind = refl; argument = refl }
+  passed (suc (suc (suc (suc (suc (suc (suc (suc (suc (suc (suc (suc (suc (suc zero)))))))))))))) a h u f = record { suited = leb-true a most-events u; found = late 1 f; kind = refl; argument = refl }
   passed (suc (suc (suc (suc (suc (suc (suc (suc (suc (suc (suc (suc (suc (suc (suc zero))))))))))))))) a h u f = record { suited = tt; found = late 2 f; kind = refl; argument = no-argument a u }
   passed (suc (suc (suc (suc (suc (suc (suc (suc (suc (suc (suc (suc (suc (suc (suc (suc k)))))))))))))))) a h u f = absurd (omega arith)
 
@@ -127,38 +128,38 @@ module _ (s r c w p : ℕ) where
   counts-back x y u =
       let lo : (x + 256 * y) % 256 ≡ x = omega (arith, u .0) in
       let hi : (x + 256 * y) / 256 ≡ y = omega (arith, u .0) in
-      ap₂ (λ a b. leb a 15 && ((leb b 15 || eqb b 255) && leb a (most s b))) lo hi
-      ∙ and-from (leb x 15) ((leb y 15 || eqb y 255) && leb x (most s y)) (le-leb x 15 (u .0))
-      (and-from (leb y 15 || eqb y 255) (leb x (most s y)) (go (u .1)) (le-leb x (most s y) (u .2)))
+      ap₂ (λ a b. leb a most-times && ((leb b most-times || eqb b scope-mark) && leb a (most s b))) lo hi
+      ∙ and-from (leb x most-times) ((leb y most-times || eqb y scope-mark) && leb x (most s y)) (le-leb x most-times (u .0))
+      (and-from (leb y most-times || eqb y scope-mark) (leb x (most s y)) (go (u .1)) (le-leb x (most s y) (u .2)))
     where
-      go : (y ≤ 15) ⊎ (y ≡ 255) → (leb y 15 || eqb y 255) ≡ true
-      go (inl h) = or-left (leb y 15) (eqb y 255) (le-leb y 15 h)
-      go (inr h) = or-right (leb y 15) (eqb y 255) (eq-eqb y 255 h)
+      go : (y ≤ most-times) ⊎ (y ≡ scope-mark) → (leb y most-times || eqb y scope-mark) ≡ true
+      go (inl h) = or-left (leb y most-times) (eqb y scope-mark) (le-leb y most-times h)
+      go (inr h) = or-right (leb y most-times) (eqb y scope-mark) (eq-eqb y scope-mark h)
 
   pick-back : (x : Selection) → Selects r x → pick-suits r (256 * x .root + x .event) ≡ true
   unfolding pick-suits
   pick-back x u =
       let lo : (256 * x .root + x .event) % 256 ≡ x .event = omega (arith, u .1) in
       let hi : (256 * x .root + x .event) / 256 ≡ x .root = omega (arith, u .1) in
-      ap₂ (λ a b. ltb a r && leb b 99) hi lo ∙ and-from (ltb (x .root) r) (leb (x .event) 99) (lt-ltb (x .root) r (u .0)) (le-leb (x .event) 99 (u .1))
+      ap₂ (λ a b. ltb a r && leb b most-type) hi lo ∙ and-from (ltb (x .root) r) (leb (x .event) most-type) (lt-ltb (x .root) r (u .0)) (le-leb (x .event) most-type (u .1))
 
   suits-back : (it : Item) → Suited s r it → suits s r (kind-of it) (argument-of it) ≡ true
   suits-back Nothing u = refl
-  suits-back (Atom t) u = le-leb t 99 u
-  suits-back (Event t) u = le-leb t 99 u
+  suits-back (Atom t) u = le-leb t most-type u
+  suits-back (Event t) u = le-leb t most-type u
   suits-back (Both InOrder) u = refl
   suits-back (Both AsSet) u = refl
   suits-back Either u = refl
   suits-back (Repeat InOrder x y) u = counts-back x y u
   suits-back (Repeat AsSet x y) u = counts-back x y u
-  suits-back (Root t) u = le-leb t 99 u
+  suits-back (Root t) u = le-leb t most-type u
   suits-back (Pick x) u = pick-back x u
   suits-back (Relate Share) u = refl
   suits-back (Relate Coordinate) u = refl
   suits-back (Relate AsMany) u = refl
   suits-back (Relate NoMore) u = refl
   suits-back (Relate FewerBefore) u = refl
-  suits-back (AtMost n) u = le-leb n 64 u
+  suits-back (AtMost n) u = le-leb n most-events u
   suits-back Unknown u = absurd u
 
   anywhere-back : c < r → (ltb c r && true) ≡ true

@@ -6,6 +6,7 @@ use mathlib.Core.Logic.{_⊎_, inl, inr}
 use native.Mathlib.Omega.{arith}
 use native.Mathlib.Nat.{mul-comm, mul-assoc}
 use lib.ListN.{length, getD, set, replicate, length-append}
+use Rattle.questions.specs.Limits.{most-roots, most-candidates, most-events}
 use Rattle.grammar.specs.Pattern.{Pattern, nothing, atom, event, both, either, repeat, count, len, size}
 use Rattle.grammar.specs.Schema.{Rooted, candidates, events}
 use Rattle.grammar.specs.Measures.{measure-of, count-capped}
@@ -46,12 +47,12 @@ entries-push : (s i k n : ℕ) (rs : List Rooted) (r : Rooted) → k ≡ i + roo
 entries-push s i k n [] r e = let f : k ≡ i + size (r .pattern) = omega arith in ap (λ j. entry s j r ∷ replicate n no-root) f
 entries-push s i k n (x ∷ rs) r e = ap (λ l. entry s (i + size (x .pattern)) x ∷ l) (entries-push s (i + size (x .pattern) + 1) k n rs r (omega arith))
 
-plan-push : (s k : ℕ) (rs : List Rooted) (r : Rooted) → length rs < 8 → k ≡ root-items rs + size (r .pattern)
+plan-push : (s k : ℕ) (rs : List Rooted) (r : Rooted) → length rs < most-roots → k ≡ root-items rs + size (r .pattern)
     → set (plan-of s rs .roots) (length rs) (entry s k r) ≡ plan-of s (rs ++ (r ∷ [])) .roots
 plan-push s k rs r h e =
-    ap (λ n. set (entries s 0 rs ++ replicate n no-root) (length rs) (entry s k r)) {x = 8 - length rs} {y = suc (7 - length rs)} (omega arith)
-    ∙ (entries-push s 0 k (7 - length rs) rs r (omega arith)
-    ∙ ap (λ n. entries s 0 (rs ++ (r ∷ [])) ++ replicate n no-root) {x = 7 - length rs} {y = 8 - length (rs ++ (r ∷ []))} (simp length-append (omega arith)))
+    ap (λ n. set (entries s 0 rs ++ replicate n no-root) (length rs) (entry s k r)) {x = most-roots - length rs} {y = suc (most-roots - suc (length rs))} (omega arith)
+    ∙ (entries-push s 0 k (most-roots - suc (length rs)) rs r (omega arith)
+    ∙ ap (λ n. entries s 0 (rs ++ (r ∷ [])) ++ replicate n no-root) {x = most-roots - suc (length rs)} {y = most-roots - length (rs ++ (r ∷ []))} (simp length-append (omega arith)))
 
 -- Items that end a pattern.
 
@@ -213,7 +214,7 @@ module _ (b : List ℕ) (i : ℕ) (g : Progress) (c : Counted b i g) where
   two-wait it is pa (inl e) = omega (arith, passed-at b (g .scope) i (Both (e .0)) pa (sym (e .1) ∙ is) .found .1, c .patterns)
   two-wait it is pa (inr e) = omega (arith, passed-at b (g .scope) i Either pa (sym e ∙ is) .found .1, c .patterns)
 
-  pub closes : (t : ℕ) → Root t ≡ item-at b i → Sized b → Found-at b i (Root t) → (m : Measure) → m ≡ measure-of (g .scope) (event t (top (state b i .patterns))) → m .count ≤ 1000000 → m .length ≤ 64 → (h : Progress)
+  pub closes : (t : ℕ) → Root t ≡ item-at b i → Sized b → Found-at b i (Root t) → (m : Measure) → m ≡ measure-of (g .scope) (event t (top (state b i .patterns))) → m .count ≤ most-candidates → m .length ≤ most-events → (h : Progress)
       → h .scope ≡ g .scope → h .roots ≡ g .roots → h .waiting ≡ 0 → h .closed ≡ g .closed + 1 → h .picks ≡ g .picks → h .earlier ≡ g .earlier → h .later ≡ g .later
       → h .total ≡ count-capped (g .total * m .count) → h .length ≡ g .length + m .length
       → h .plan .roots ≡ set (g .plan .roots) (g .closed) (record { event = t; item = i; count = m .count; length = m .length })
@@ -239,7 +240,7 @@ module _ (b : List ℕ) (i : ℕ) (g : Progress) (c : Counted b i g) where
         picks = hp ∙ (c .picks ∙ ap length (sym e2));
         earlier = hx ∙ (c .earlier ∙ ap earlier (sym e2));
         later = hy ∙ (c .later ∙ ap later (sym e2));
-        total = ht ∙ (ap₂ (λ u w. count-capped (u * w)) (c .total) x ∙ (min-mul-left 1000001 (candidates s rs) (count s (top ps)) ∙ (ap count-capped (sym (candidates-push s rs r)) ∙ ap₂ (λ a l. count-capped (candidates a l)) (sym hs) (sym e1))));
+        total = ht ∙ (ap₂ (λ u w. count-capped (u * w)) (c .total) x ∙ (min-mul-left (most-candidates + 1) (candidates s rs) (count s (top ps)) ∙ (ap count-capped (sym (candidates-push s rs r)) ∙ ap₂ (λ a l. count-capped (candidates a l)) (sym hs) (sym e1))));
         sum = omega (arith, hl, v, c .sum, y, ap (λ a. events a (state b (suc i) .roots)) hs);
         plan = ap planned (hr ∙ (ap₂ (λ u w. set u w (record { event = t; item = i; count = m .count; length = m .length })) (ap (λ (a : Plan). a .roots) (c .plan)) (c .closed)
             ∙ (ap₂ (λ u w. set (plan-of s rs .roots) (length rs) (record { event = t; item = i; count = u; length = w })) x y

@@ -12,6 +12,7 @@ use Rattle.std.specs.declared.option.Option.{Option}
 use Rattle.std.specs.declared.option.Option.the-variants.{Some, None}
 use Rattle.std.specs.declared.result.Result.{Result}
 use Rattle.std.specs.declared.result.Result.the-variants.{Ok, Err}
+use Rattle.questions.specs.Limits.{most-items, most-roots, most-scope, most-candidates, most-events, no-item}
 use Rattle.questions.specs.declared.question.Question.{Question}
 use Rattle.questions.specs.declared.question.Question.the-variants.{Sharing}
 use Rattle.questions.specs.declared.refusal.Refusal.{Refusal}
@@ -157,8 +158,8 @@ asks-back b s i all u says g =
     let h : shared-at b i ≡ None = ap (λ k. shared b k (earlier (S .picks)) (later (S .picks))) (sym (says .0)) ∙ good-shared s r b all it (S .picks) u (g .suited) (g .shared) in
     asks-sized b s i a h ∙ fits (count s (made it (S .patterns))) (len s (made it (S .patterns))) (g .small)
   where
-    fits : (n l : ℕ) → (n ≤ 1000000) × (l ≤ 64) → sized n l ≡ None
-    fits n l h = rw (le-leb n 1000000 (h .0), le-leb l 64 (h .1)) refl
+    fits : (n l : ℕ) → (n ≤ most-candidates) × (l ≤ most-events) → sized n l ≡ None
+    fits n l h = rw (le-leb n most-candidates (h .0), le-leb l most-events (h .1)) refl
 
 good-at : (b : List ℕ) (s r : ℕ) (all : List Item) (n : ℕ) → Passing s r all (firsts b n) start → (j : ℕ) → j < n → Good s r all (item-at b j) (state b j)
 good-at b s r all zero a j l = absurd (omega arith)
@@ -180,7 +181,7 @@ from-ok : (b : List ℕ) (s i k t : ℕ) → from b s i k ≡ Ok t → ((j : ℕ
 unfolding from
 from-ok b s i zero t e = (λ j l. absurd (omega arith), go (closing-at b s) refl e)
   where
-    go : (o : Option Question) → closing-at b s ≡ o → answered o 255 (Ok (candidates s (schema-of b .roots))) ≡ Ok t → closing-at b s ≡ None
+    go : (o : Option Question) → closing-at b s ≡ o → answered o no-item (Ok (candidates s (schema-of b .roots))) ≡ Ok t → closing-at b s ≡ None
     go (Some q) eo h = let z : _≡_ {A = ℕ} 0 1 = cc in absurd (omega arith)
     go None eo h = eo
 from-ok b s i (suc k) t e = go (from-ok b s (suc i) k t) (asks b s i) refl e
@@ -196,7 +197,7 @@ from-ok b s i (suc k) t e = go (from-ok b s (suc i) k t) (asks b s i) refl e
 
 ok-from : (b : List ℕ) (s i k : ℕ) → ((j : ℕ) → j < k → asks b s (i + j) ≡ None) → closing-at b s ≡ None → from b s i k ≡ Ok (candidates s (schema-of b .roots))
 unfolding from
-ok-from b s i zero h e = ap (λ o. answered o 255 (Ok (candidates s (schema-of b .roots)))) e
+ok-from b s i zero h e = ap (λ o. answered o no-item (Ok (candidates s (schema-of b .roots)))) e
 ok-from b s i (suc k) h e =
     let a : asks b s i ≡ None = ap (asks b s) {x = i} {y = i + 0} (omega arith) ∙ h 0 (omega arith) in
     ap (λ o. answered o i (from b s (suc i) k)) a ∙ ok-from b s (suc i) k (λ j l. ap (asks b s) {x = suc i + j} {y = i + suc j} (omega arith) ∙ h (suc j) (omega arith)) e
@@ -205,7 +206,7 @@ verdict-open : (b : List ℕ) (s t : ℕ) → verdict b s ≡ Ok t → opening b
 unfolding verdict
 verdict-open b s t e = go (opening b s) refl e
   where
-    go : (o : Option Question) → opening b s ≡ o → answered o 255 (from b s 0 (item-count b)) ≡ Ok t → opening b s ≡ None
+    go : (o : Option Question) → opening b s ≡ o → answered o no-item (from b s 0 (item-count b)) ≡ Ok t → opening b s ≡ None
     go (Some q) eo h = let z : _≡_ {A = ℕ} 0 1 = cc in absurd (omega arith)
     go None eo h = eo
 
@@ -213,15 +214,15 @@ open-back : (b : List ℕ) (s : ℕ) → Opened b s → opening b s ≡ None
 open-back b s o =
     rw (
       and-from (leb 4 (length b)) (eqb (length b) (4 + 3 * item-count b)) (le-leb 4 (length b) (o .four)) (eq-eqb (length b) (4 + 3 * item-count b) (o .bytes)),
-      and-from (leb 1 (item-count b) && leb (item-count b) 255) (leb 1 (root-count b) && leb (root-count b) 8)
-          (and-from (leb 1 (item-count b)) (leb (item-count b) 255) (le-leb 1 (item-count b) (o .items-from)) (le-leb (item-count b) 255 (o .items-to)))
-          (and-from (leb 1 (root-count b)) (leb (root-count b) 8) (le-leb 1 (root-count b) (o .roots-from)) (le-leb (root-count b) 8 (o .roots-to))),
-      and-from (leb 1 s) (leb s 5) (le-leb 1 s (o .scope-from)) (le-leb s 5 (o .scope-to)),
+      and-from (leb 1 (item-count b) && leb (item-count b) most-items) (leb 1 (root-count b) && leb (root-count b) most-roots)
+          (and-from (leb 1 (item-count b)) (leb (item-count b) most-items) (le-leb 1 (item-count b) (o .items-from)) (le-leb (item-count b) most-items (o .items-to)))
+          (and-from (leb 1 (root-count b)) (leb (root-count b) most-roots) (le-leb 1 (root-count b) (o .roots-from)) (le-leb (root-count b) most-roots (o .roots-to))),
+      and-from (leb 1 s) (leb s most-scope) (le-leb 1 s (o .scope-from)) (le-leb s most-scope (o .scope-to)),
     ) refl
 
-closing-back : (r c w p t l : ℕ) → c ≡ r → w ≡ 0 → p ≡ 0 → t ≤ 1000000 → l ≤ 64 → closing r c w p t l ≡ None
+closing-back : (r c w p t l : ℕ) → c ≡ r → w ≡ 0 → p ≡ 0 → t ≤ most-candidates → l ≤ most-events → closing r c w p t l ≡ None
 closing-back r c w p t l a b d e f =
-    rw (and-from (eqb c r) (eqb w 0 && eqb p 0) (eq-eqb c r a) (and-from (eqb w 0) (eqb p 0) (eq-eqb w 0 b) (eq-eqb p 0 d)), le-leb t 1000000 e, le-leb l 64 f) refl
+    rw (and-from (eqb c r) (eqb w 0 && eqb p 0) (eq-eqb c r a) (and-from (eqb w 0) (eqb p 0) (eq-eqb w 0 b) (eq-eqb p 0 d)), le-leb t most-candidates e, le-leb l most-events f) refl
 
 no-length : {A : Type 0} (l : List A) → length l ≡ 0 → l ≡ []
 no-length [] e = refl

@@ -6,6 +6,7 @@ use mathlib.Core.Logic.{_⊎_, inl, inr}
 use native.Mathlib.Omega.{arith}
 use lib.ListN.{length, length-append}
 use Rattle.std.proofs.shelf.Tests.{cases-lt, eqb-false}
+use Rattle.questions.specs.Limits.{most-events}
 use Rattle.grammar.specs.Pattern.{Pattern, nothing, atom, event, both, either, repeat}
 use Rattle.grammar.specs.Schema.{Rooted, Operation, relate, at-most, Schema}
 use Rattle.grammar.specs.declared.part.Relation.{Relation}
@@ -41,7 +42,7 @@ Select-all r (x ∷ xs) = Selects r x × Select-all r xs
 -- as Operates, with question 7 on the items
 abbrev Acts : ℕ → List Item → Operation → Type 0
 Acts r all (relate o x y) = Selects r x × Selects r y × Related all o x y
-Acts r all (at-most n x) = Selects r x × (n ≤ 64)
+Acts r all (at-most n x) = Selects r x × (n ≤ most-events)
 
 abbrev Act-all : ℕ → List Item → List Operation → Type 0
 Act-all r all [] = Unit {0}

@@ -13,6 +13,7 @@ use Rattle.std.specs.declared.option.Option.{Option}
 use Rattle.std.specs.declared.option.Option.the-variants.{Some, None}
 use Rattle.std.specs.declared.result.Result.{Result}
 use Rattle.std.specs.declared.result.Result.the-variants.{Ok, Err}
+use Rattle.questions.specs.Limits.{most-items, most-roots, most-scope, most-candidates, most-events, no-item}
 use Rattle.questions.specs.declared.question.Question.{Question}
 use Rattle.questions.specs.declared.question.Question.the-variants.{Bytes, Sizes, Scope, Count, Length, Whole, Total, Events}
 use Rattle.questions.specs.declared.refusal.Refusal.{Refusal}
@@ -54,13 +55,13 @@ pub sized-is : (b : List ℕ) (s i : ℕ) (m : Measure) → m ≡ measure-of s (
 unfolding sized-at
 sized-is b s i m e =
     ap (λ (x : Measure). sized (x .count) (x .length)) e
-    ∙ ap₂ (λ (x y : Bool). cond {A = Option Question} x (cond y None (Some Length)) (Some Count)) (cap-leb 1000000 (count s (made-at b i))) (cap-leb 64 (len s (made-at b i)))
+    ∙ ap₂ (λ (x y : Bool). cond {A = Option Question} x (cond y None (Some Length)) (Some Count)) (cap-leb most-candidates (count s (made-at b i))) (cap-leb most-events (len s (made-at b i)))
 
-pub sized-none : (n l : ℕ) → sized n l ≡ None → (n ≤ 1000000) × (l ≤ 64)
-sized-none n l e = go (leb n 1000000) refl (leb l 64) refl e
+pub sized-none : (n l : ℕ) → sized n l ≡ None → (n ≤ most-candidates) × (l ≤ most-events)
+sized-none n l e = go (leb n most-candidates) refl (leb l most-events) refl e
   where
-    go : (x : Bool) → leb n 1000000 ≡ x → (y : Bool) → leb l 64 ≡ y → _≡_ {A = Option Question} (cond x (cond y None (Some Length)) (Some Count)) None → (n ≤ 1000000) × (l ≤ 64)
-    go true ex true ey h = (leb-true n 1000000 ex, leb-true l 64 ey)
+    go : (x : Bool) → leb n most-candidates ≡ x → (y : Bool) → leb l most-events ≡ y → _≡_ {A = Option Question} (cond x (cond y None (Some Length)) (Some Count)) None → (n ≤ most-candidates) × (l ≤ most-events)
+    go true ex true ey h = (leb-true n most-candidates ex, leb-true l most-events ey)
     go true ex false ey h = let z : _≡_ {A = ℕ} 0 1 = cc in absurd (omega arith)
     go false ex y ey h = let z : _≡_ {A = ℕ} 0 1 = cc in absurd (omega arith)
 
@@ -79,7 +80,7 @@ unfolding asks
 asks-sized b s i e f = ap₂ (λ o u. first-no o (first-no u (sized-at b s i))) e f
 
 -- one more measure is known
-pub known-push : (b : List ℕ) (s i : ℕ) (k l : Known) (m : Measure) → Knows b s k → k .len ≡ i → i < 255 → length (k .measures) ≡ 255
+pub known-push : (b : List ℕ) (s i : ℕ) (k l : Known) (m : Measure) → Knows b s k → k .len ≡ i → i < most-items → length (k .measures) ≡ most-items
     → m ≡ measure-of s (made-at b i) → l .len ≡ k .len + 1 → l .measures ≡ set (k .measures) (k .len) m → Knows b s l
 known-push b s i k l m kn e lt n me le lm =
     record { few = omega arith; right = λ j h en. rw lm (go j (cases-lt j (k .len)) h en) }
@@ -98,32 +99,32 @@ pub record Opened (b : List ℕ) (s : ℕ) : Type 0 where
   pub four : 4 ≤ length b
   pub bytes : length b ≡ 4 + 3 * item-count b
   pub items-from : 1 ≤ item-count b
-  pub items-to : item-count b ≤ 255
+  pub items-to : item-count b ≤ most-items
   pub roots-from : 1 ≤ root-count b
-  pub roots-to : root-count b ≤ 8
+  pub roots-to : root-count b ≤ most-roots
   pub scope-from : 1 ≤ s
-  pub scope-to : s ≤ 5
+  pub scope-to : s ≤ most-scope
 
 pub opened : (b : List ℕ) (s : ℕ) → opening b s ≡ None → Opened b s
-opened b s e = go (bytes-fit b) refl (sizes-fit b) refl (leb 1 s && leb s 5) refl e
+opened b s e = go (bytes-fit b) refl (sizes-fit b) refl (leb 1 s && leb s most-scope) refl e
   where
-    go : (x : Bool) → bytes-fit b ≡ x → (y : Bool) → sizes-fit b ≡ y → (z : Bool) → (leb 1 s && leb s 5) ≡ z
+    go : (x : Bool) → bytes-fit b ≡ x → (y : Bool) → sizes-fit b ≡ y → (z : Bool) → (leb 1 s && leb s most-scope) ≡ z
         → _≡_ {A = Option Question} (cond x (cond y (cond z None (Some Scope)) (Some Sizes)) (Some Bytes)) None → Opened b s
     go true ex true ey true ez h =
         let u = and-parts (leb 4 (length b)) (eqb (length b) (4 + 3 * item-count b)) ex in
-        let v = and-parts (leb 1 (item-count b) && leb (item-count b) 255) (leb 1 (root-count b) && leb (root-count b) 8) ey in
-        let n = and-parts (leb 1 (item-count b)) (leb (item-count b) 255) (v .0) in
-        let r = and-parts (leb 1 (root-count b)) (leb (root-count b) 8) (v .1) in
-        let w = and-parts (leb 1 s) (leb s 5) ez in
+        let v = and-parts (leb 1 (item-count b) && leb (item-count b) most-items) (leb 1 (root-count b) && leb (root-count b) most-roots) ey in
+        let n = and-parts (leb 1 (item-count b)) (leb (item-count b) most-items) (v .0) in
+        let r = and-parts (leb 1 (root-count b)) (leb (root-count b) most-roots) (v .1) in
+        let w = and-parts (leb 1 s) (leb s most-scope) ez in
         record {
           four = leb-true 4 (length b) (u .0);
           bytes = eqb-true (length b) (4 + 3 * item-count b) (u .1);
           items-from = leb-true 1 (item-count b) (n .0);
-          items-to = leb-true (item-count b) 255 (n .1);
+          items-to = leb-true (item-count b) most-items (n .1);
           roots-from = leb-true 1 (root-count b) (r .0);
-          roots-to = leb-true (root-count b) 8 (r .1);
+          roots-to = leb-true (root-count b) most-roots (r .1);
           scope-from = leb-true 1 s (w .0);
-          scope-to = leb-true s 5 (w .1);
+          scope-to = leb-true s most-scope (w .1);
         }
     go true ex true ey false ez h = let z : _≡_ {A = ℕ} 0 1 = cc in absurd (omega arith)
     go true ex false ey w ez h = let z : _≡_ {A = ℕ} 0 1 = cc in absurd (omega arith)
@@ -134,13 +135,13 @@ opened-sized b s o = record { room = omega (arith, o .bytes); items = o .items-t
 
 -- The verdict.
 
-pub verdict-no : (b : List ℕ) (s : ℕ) (q : Question) → opening b s ≡ Some q → verdict b s ≡ Err (record { question = q; item = 255 })
+pub verdict-no : (b : List ℕ) (s : ℕ) (q : Question) → opening b s ≡ Some q → verdict b s ≡ Err (record { question = q; item = no-item })
 unfolding verdict
-verdict-no b s q e = ap (λ o. answered o 255 (from b s 0 (item-count b))) e
+verdict-no b s q e = ap (λ o. answered o no-item (from b s 0 (item-count b))) e
 
 pub verdict-from : (b : List ℕ) (s : ℕ) → opening b s ≡ None → verdict b s ≡ from b s 0 (item-count b)
 unfolding verdict
-verdict-from b s e = ap (λ o. answered o 255 (from b s 0 (item-count b))) e
+verdict-from b s e = ap (λ o. answered o no-item (from b s 0 (item-count b))) e
 
 left-more : (n i : ℕ) → i < n → n - i ≡ suc (n - suc i)
 left-more n i h = omega arith
@@ -154,7 +155,7 @@ unfolding from
 from-more b s i n h e = ap (from b s i) (left-more n i h) ∙ ap (λ o. answered o i (from b s (suc i) (n - suc i))) e
 
 -- the verdict where all items passed
-pub from-last : (b : List ℕ) (s i : ℕ) → i ≡ item-count b → from b s i (item-count b - i) ≡ answered (closing-at b s) 255 (Ok (candidates s (schema-of b .roots)))
+pub from-last : (b : List ℕ) (s i : ℕ) → i ≡ item-count b → from b s i (item-count b - i) ≡ answered (closing-at b s) no-item (Ok (candidates s (schema-of b .roots)))
 unfolding from
 from-last b s i e = ap (from b s i) {x = item-count b - i} {y = 0} (omega arith)
 
@@ -177,26 +178,26 @@ closing-is b i g c e =
     let capped : closing (g .roots) (g .closed) (g .waiting) (g .picks) (g .total) (g .length)
     ≡ closing (root-count b) (length (state b i .roots)) (length (state b i .patterns)) (length (state b i .picks)) (count-capped (candidates s (state b i .roots))) (events s (state b i .roots)) = cc in
     capped
-    ∙ (ap (λ (x : Bool). cond {A = Option Question} (eqb (length (state b i .roots)) (root-count b) && (eqb (length (state b i .patterns)) 0 && eqb (length (state b i .picks)) 0)) (cond x (cond (leb (events s (state b i .roots)) 64) None (Some Events)) (Some Total)) (Some Whole))
-    (cap-leb 1000000 (candidates s (state b i .roots)))
+    ∙ (ap (λ (x : Bool). cond {A = Option Question} (eqb (length (state b i .roots)) (root-count b) && (eqb (length (state b i .patterns)) 0 && eqb (length (state b i .picks)) 0)) (cond x (cond (leb (events s (state b i .roots)) most-events) None (Some Events)) (Some Total)) (Some Whole))
+    (cap-leb most-candidates (candidates s (state b i .roots)))
     ∙ ap (λ n. closing (root-count b) (length (state b n .roots)) (length (state b n .patterns)) (length (state b n .picks)) (candidates s (state b n .roots)) (events s (state b n .roots))) e)
 
 pub record Ended (r c w p t l : ℕ) : Type 0 where
   pub roots : c ≡ r
   pub patterns : w ≡ 0
   pub picks : p ≡ 0
-  pub total : t ≤ 1000000
-  pub sum : l ≤ 64
+  pub total : t ≤ most-candidates
+  pub sum : l ≤ most-events
 
 pub ended : (r c w p t l : ℕ) → closing r c w p t l ≡ None → Ended r c w p t l
-ended r c w p t l e = go (eqb c r && (eqb w 0 && eqb p 0)) refl (leb t 1000000) refl (leb l 64) refl e
+ended r c w p t l e = go (eqb c r && (eqb w 0 && eqb p 0)) refl (leb t most-candidates) refl (leb l most-events) refl e
   where
-    go : (x : Bool) → (eqb c r && (eqb w 0 && eqb p 0)) ≡ x → (y : Bool) → leb t 1000000 ≡ y → (z : Bool) → leb l 64 ≡ z
+    go : (x : Bool) → (eqb c r && (eqb w 0 && eqb p 0)) ≡ x → (y : Bool) → leb t most-candidates ≡ y → (z : Bool) → leb l most-events ≡ z
         → _≡_ {A = Option Question} (cond x (cond y (cond z None (Some Events)) (Some Total)) (Some Whole)) None → Ended r c w p t l
     go true ex true ey true ez h =
         let u = and-parts (eqb c r) (eqb w 0 && eqb p 0) ex in
         let v = and-parts (eqb w 0) (eqb p 0) (u .1) in
-        record { roots = eqb-true c r (u .0); patterns = eqb-true w 0 (v .0); picks = eqb-true p 0 (v .1); total = leb-true t 1000000 ey; sum = leb-true l 64 ez }
+        record { roots = eqb-true c r (u .0); patterns = eqb-true w 0 (v .0); picks = eqb-true p 0 (v .1); total = leb-true t most-candidates ey; sum = leb-true l most-events ez }
     go true ex true ey false ez h = let z : _≡_ {A = ℕ} 0 1 = cc in absurd (omega arith)
     go true ex false ey w ez h = let z : _≡_ {A = ℕ} 0 1 = cc in absurd (omega arith)
     go false ex y ey w ez h = let z : _≡_ {A = ℕ} 0 1 = cc in absurd (omega arith)

@@ -12,6 +12,10 @@ use Rattle.schema.specs.declared.plan.Root.{Root}
 abbrev pub no-root : Root
 no-root = record { event = 0; item = 0; count = 0; length = 0 }
 
+-- no roots
+abbrev pub empty-plan : Plan
+empty-plan = record { roots = replicate most-roots no-root }
+
 -- a root that item i closes
 abbrev pub entry : ℕ → ℕ → Rooted → Root
 entry s i r = record { event = r .event; item = i; count = count s (r .pattern); length = len s (r .pattern) + 1 }

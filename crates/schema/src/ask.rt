@@ -28,9 +28,9 @@ pub(crate) fn ask_opening(table: &[u8], scope: u8) -> Option<Question>
     if table.len() < 4 {
         return Some(Question::Bytes);
     }
-    let items = word_at(table, 0);
-    let roots = word_at(table, 2);
-    if table.len() != 4 + 3 * usize::from(items) {
+    let items = usize::from(word_at(table, 0));
+    let roots = usize::from(word_at(table, 2));
+    if table.len() != 4 + 3 * items {
         return Some(Question::Bytes);
     }
     if items < 1 || items > MOST_ITEMS || roots < 1 || roots > MOST_ROOTS {

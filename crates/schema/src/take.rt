@@ -1,14 +1,12 @@
 //! One more item: measured, counted, and its root planned.
 
 ghost use mathlib.Core.Path.{_≡_};
-ghost use Prim.Native.Nat.{ℕ, suc, _+_, _<_, _≤_};
+ghost use Prim.Native.Nat.{ℕ, suc, _<_, _≤_};
 ghost use mathlib.Core.List.{List};
-ghost use lib.ListN.{length, set, replicate};
-ghost use Rattle.questions.specs.Limits.{most-items, most-roots, most-candidates, most-events};
+ghost use Rattle.questions.specs.Limits.{most-candidates, most-events};
 ghost use Rattle.std.specs.declared.option.Option.the-variants.{None};
 ghost use Rattle.grammar.specs.Measures.{measure-of};
 ghost use Rattle.schema.specs.Items.{item-count, root-count};
-ghost use Rattle.schema.specs.Plans.{no-root};
 ghost use Rattle.schema.specs.Questions.{asked-at, made-at, asks};
 ghost use Rattle.schema.specs.Progress.{Sized, Knows, Counted, Holds};
 use crate::ask::ask_measure;
@@ -25,55 +23,6 @@ use grammar::Measure;
 use grammar::Selection;
 use grammar::measure::product_capped;
 use questions::Question;
-
-impl Plan {
-    fn empty() -> Plan
-        ensures { λ r. ⌜ r .roots ≡ replicate most-roots no-root ⌝ }
-    {
-        let none = Root {
-            event: 0,
-            item: 0,
-            count: 0,
-            length: 0,
-        };
-        Plan { roots: [none; 8] }
-    }
-
-    /// Fills the entry of a root that closes.
-    fn close(&mut self, r: usize, root: Root)
-        requires { ⌜ r < most-roots ⌝ }
-        ensures { λ _. ⌜ now (self .exit) .roots ≡ set (now (self .entry) .roots) r root ⌝ }
-    {
-        self.roots[r] = root;
-    }
-}
-
-impl Known {
-    fn none() -> Known
-        ensures { λ r. ⌜ r .len ≡ 0 ⌝ }
-    {
-        let none = Measure {
-            items: 0,
-            count: 0,
-            length: 0,
-        };
-        Known {
-            measures: [none; 255],
-            len: 0,
-        }
-    }
-
-    /// The measure of one more item.
-    fn push(&mut self, m: Measure)
-        requires { ⌜ now self .len < most-items ⌝ }
-        ensures len { λ _. ⌜ now (self .exit) .len ≡ now (self .entry) .len + 1 ⌝ }
-        ensures room { λ _. ⌜ length (now (self .entry) .measures) ≡ most-items ⌝ }
-        ensures measures { λ _. ⌜ now (self .exit) .measures ≡ set (now (self .entry) .measures) (now (self .entry) .len) m ⌝ }
-    {
-        self.measures[self.len] = m;
-        self.len += 1;
-    }
-}
 
 impl Progress {
     pub(crate) fn start(scope: u8, roots: usize) -> Progress
