@@ -223,7 +223,7 @@ def cases():
     yield "count-1048576", 2, table(1, *power(4, 10, 10))
     yield "count-1000001", 2, table(1, *power(10, 6, 6)[:-1], ATOM, (5, 0), (8, 1))
     yield "count-15-to-the-15", 2, table(1, *power(15, 15, 15))
-    yield "count-before-length", 2, table(1, *power(15, 15, 15)[:-1], (6, times(15, 15)), (8, 1))
+    yield "count-before-length", 2, table(1, *power(2, 5, 5)[:-1], (6, times(15, 15)), (8, 1))
     four = [ATOM, ATOM, (3, 0), ATOM, (3, 0), ATOM, (3, 0)]
     yield "length-63-and-its-root", 2, table(1, *sixty(), ATOM, (4, 0), ATOM, (4, 0), ATOM, (4, 0), (8, 1))
     yield "length-64-and-its-root", 2, table(1, *sixty(), *four, (3, 0), (8, 1))
