@@ -1,3 +1,4 @@
 pub mod Pattern
 pub mod Measures
 pub mod Schema
+pub mod Fits

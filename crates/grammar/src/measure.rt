@@ -81,11 +81,7 @@ fn powers_capped(c: u32, least: u8, most: u8) -> u32
 pub fn most_of(scope: u8, most: u8) -> u8
     ensures { λ r. ⌜ r ≡ most-at scope most ⌝ }
 {
-    if u16::from(most) == SCOPE_MARK {
-        scope
-    } else {
-        most
-    }
+    if most == SCOPE_MARK { scope } else { most }
 }
 
 impl Measure {

@@ -13,10 +13,10 @@ pub const MOST_SCOPE: u8 = 5;
 pub const MOST_TYPE: u16 = 99;
 
 /// The largest count that a repetition states, least or most.
-pub const MOST_TIMES: u16 = 15;
+pub const MOST_TIMES: u8 = 15;
 
 /// The "most" of a repetition that stands for the scope.
-pub const SCOPE_MARK: u16 = 255;
+pub const SCOPE_MARK: u8 = 255;
 
 /// How many candidates a pattern, a root or a schema counts at most.
 pub const MOST_CANDIDATES: u32 = 1_000_000;

@@ -1,5 +1,5 @@
 -- Reading a list of items step by step; the writing of a schema passes, and leaves that schema.
-use Prim.Native.Nat.{ℕ, _+_, _*_, _≤_, _<_}
+use Prim.Native.Nat.{ℕ, _+_, _≤_, _<_}
 use mathlib.Core.Path.{_≡_, refl, sym, ap, ap₂, subst, _∙_}
 use mathlib.Core.List.{List, [], _∷_, _++_, append-nil, append-assoc}
 use mathlib.Core.Bool.{false}
@@ -8,19 +8,17 @@ use lib.ListN.{length, length-append}
 use Rattle.std.proofs.shelf.Tests.{ne-eqb}
 use Rattle.grammar.specs.Pattern.{Pattern, nothing, atom, event, both, either, repeat}
 use Rattle.grammar.specs.Schema.{Rooted, Operation, relate, at-most, Schema}
-use Rattle.grammar.specs.declared.part.Order.{Order}
-use Rattle.grammar.specs.declared.part.Order.the-variants.{InOrder, AsSet}
 use Rattle.grammar.specs.declared.part.Relation.{Relation}
 use Rattle.grammar.specs.declared.part.Relation.the-variants.{Share, Coordinate, AsMany, NoMore, FewerBefore}
 use Rattle.grammar.specs.declared.part.Selection.{Selection}
-use Rattle.schema.specs.Items.{kind-of, argument-of}
 use Rattle.schema.specs.Reading.{State, start, step, made, earlier, later}
 use Rattle.schema.specs.Questions.{encloses}
 use Rattle.schema.specs.Writing.{written, roots-written, operation-written, operations-written, items-of}
-use Rattle.schema.specs.Within.{Small, Fits, Roots-fit, Leaf, Leaves, Selects, Relates, Operates, Operate}
-use Rattle.schema.specs.declared.item.Item.{Item}
-use Rattle.schema.specs.declared.item.Item.the-variants.{Nothing, Atom, Event, Both, Either, Repeat, Root, Pick, Relate, AtMost, Unknown}
-use Rattle.schema.proofs.Passing.{Found, Suited}
+use Rattle.grammar.specs.Fits.{Small, Fits, Roots-fit, Leaf, Leaves, Selects, Relates, Operates, Operate}
+use Rattle.items.specs.declared.ask.Tally.{Tally}
+use Rattle.items.specs.declared.item.Item.{Item}
+use Rattle.items.specs.declared.item.Item.the-variants.{Nothing, Atom, Event, Both, Either, Repeat, Root, Pick, Relate, AtMost, Unknown}
+use Rattle.items.proofs.Passing.{Found, Suited}
 
 abbrev pub advance : List Item → State → State
 advance [] S = S
@@ -33,7 +31,7 @@ advance-append (x ∷ xs) ys S = advance-append xs ys (step x S)
 -- no item is an event with an inside, or a root, of type t
 abbrev pub Unenclosed : ℕ → List Item → Type 0
 Unenclosed t [] = Unit {0}
-Unenclosed t (it ∷ its) = (encloses (kind-of it) (argument-of it) t ≡ false) × Unenclosed t its
+Unenclosed t (it ∷ its) = (encloses it t ≡ false) × Unenclosed t its
 
 -- question 7 of a relation, and of an item, over all items of the table
 abbrev pub Related : List Item → Relation → Selection → Selection → Type 0
@@ -56,10 +54,13 @@ Shared all (Relate r) xs = Related all r (earlier xs) (later xs)
 Shared all (AtMost n) xs = Unit {0}
 Shared all Unknown xs = Unit {0}
 
+abbrev pub tally : ℕ → State → Tally
+tally r S = record { roots = r; closed = length (S .roots); patterns = length (S .patterns); picks = length (S .picks) }
+
 -- the item passes questions 4 to 9
 pub record Good (s r : ℕ) (all : List Item) (it : Item) (S : State) : Type 0 where
   pub suited : Suited s r it
-  pub found : Found it r (length (S .roots)) (length (S .patterns)) (length (S .picks))
+  pub found : Found (tally r S) it
   pub shared : Shared all it (S .picks)
   pub small : Small s (made it (S .patterns))
 
@@ -185,38 +186,23 @@ pub unenclosed-append : (t : ℕ) (xs ys : List Item) → Unenclosed t xs → Un
 unenclosed-append t [] ys a b = b
 unenclosed-append t (x ∷ xs) ys a b = (a .0, unenclosed-append t xs ys (a .1) b)
 
-both-encloses : (t : ℕ) (o : Order) → encloses (kind-of (Both o)) 0 t ≡ false
-both-encloses t InOrder = refl
-both-encloses t AsSet = refl
-
-repeat-encloses : (t a b : ℕ) (o : Order) → encloses (kind-of (Repeat o a b)) (a + 256 * b) t ≡ false
-repeat-encloses t a b InOrder = refl
-repeat-encloses t a b AsSet = refl
-
 unenclosed-pattern : (t : ℕ) (p : Pattern) → Leaf t p → Unenclosed t (written p)
 unenclosed-pattern t nothing h = (refl, tt)
 unenclosed-pattern t (atom u) h = (refl, tt)
 unenclosed-pattern t (event u p) h = unenclosed-append t (written p) (Event u ∷ []) (unenclosed-pattern t p (h .0)) (ne-eqb u t (h .1), tt)
 unenclosed-pattern t (both o p q) h =
-    unenclosed-append t (written p) (written q ++ (Both o ∷ [])) (unenclosed-pattern t p (h .0)) (unenclosed-append t (written q) (Both o ∷ []) (unenclosed-pattern t q (h .1)) (both-encloses t o, tt))
+    unenclosed-append t (written p) (written q ++ (Both o ∷ [])) (unenclosed-pattern t p (h .0)) (unenclosed-append t (written q) (Both o ∷ []) (unenclosed-pattern t q (h .1)) (refl, tt))
 unenclosed-pattern t (either p q) h =
     unenclosed-append t (written p) (written q ++ (Either ∷ [])) (unenclosed-pattern t p (h .0)) (unenclosed-append t (written q) (Either ∷ []) (unenclosed-pattern t q (h .1)) (refl, tt))
-unenclosed-pattern t (repeat o a b p) h = unenclosed-append t (written p) (Repeat o a b ∷ []) (unenclosed-pattern t p h) (repeat-encloses t a b o, tt)
+unenclosed-pattern t (repeat o a b p) h = unenclosed-append t (written p) (Repeat o a b ∷ []) (unenclosed-pattern t p h) (refl, tt)
 
 unenclosed-roots : (t : ℕ) (rs : List Rooted) → Leaves t rs → Unenclosed t (roots-written rs)
 unenclosed-roots t [] h = tt
 unenclosed-roots t (x ∷ rs) h = unenclosed-append t (written (x .pattern)) (Root (x .event) ∷ roots-written rs) (unenclosed-pattern t (x .pattern) (h .0)) (ne-eqb (x .event) t (h .1), unenclosed-roots t rs (h .2))
 
-relate-encloses : (t : ℕ) (r : Relation) → encloses (kind-of (Relate r)) 0 t ≡ false
-relate-encloses t Share = refl
-relate-encloses t Coordinate = refl
-relate-encloses t AsMany = refl
-relate-encloses t NoMore = refl
-relate-encloses t FewerBefore = refl
-
 unenclosed-operations : (t : ℕ) (os : List Operation) → Unenclosed t (operations-written os)
 unenclosed-operations t [] = tt
-unenclosed-operations t (relate r x y ∷ os) = (refl, (refl, (relate-encloses t r, unenclosed-operations t os)))
+unenclosed-operations t (relate r x y ∷ os) = (refl, (refl, (refl, unenclosed-operations t os)))
 unenclosed-operations t (at-most n x ∷ os) = (refl, (refl, unenclosed-operations t os))
 
 -- the writing of a schema passes

@@ -6,11 +6,12 @@ use native.Mathlib.Omega.{arith}
 use native.Mathlib.Numerals.{add-one}
 use lib.ListN.{length, getD, take, drop, length-append}
 use Rattle.std.proofs.shelf.Lists.{take-more, take-all, take-append-drop, getD-drop, getD-append-left, getD-append-add, drop-drop, length-drop}
-use Rattle.schema.specs.Items.{word, item-count, root-count, kind-at, argument-at, item-of, item-at, kind-of, argument-of}
+use Rattle.items.specs.Items.{item-of, kind-of, argument-of}
+use Rattle.schema.specs.Bytes.{item-count, root-count, kind-at, argument-at, item-at}
 use Rattle.schema.specs.Writing.{kinds, arguments, coded}
-use Rattle.schema.specs.declared.item.Item.{Item}
-use Rattle.schema.specs.declared.item.Item.the-variants.{Nothing}
-use Rattle.schema.proofs.Passing.{Suited, low-byte, high-byte, item-back}
+use Rattle.items.specs.declared.item.Item.{Item}
+use Rattle.items.specs.declared.item.Item.the-variants.{Nothing}
+use Rattle.items.proofs.Passing.{Suited, low-byte, high-byte, item-back}
 
 -- the first n items
 abbrev pub firsts : List ℕ → ℕ → List Item

@@ -1,5 +1,4 @@
 mod Waiting
-mod Passing
 mod Steps
 pub mod Verdicts
 mod Advance

@@ -15,18 +15,20 @@ use Rattle.grammar.specs.declared.part.Order.{Order}
 use Rattle.grammar.specs.declared.part.Relation.{Relation}
 use Rattle.grammar.specs.declared.part.Selection.{Selection}
 use Rattle.grammar.proofs.Caps.{min-mul-left}
-use Rattle.schema.specs.Items.{item-count, root-count, item-at}
-use Rattle.schema.specs.Reading.{stacked, rooted, picked, state, top, earlier, later}
+use Rattle.schema.specs.Bytes.{root-count, argument-at, item-at}
+use Rattle.schema.specs.Reading.{stacked, rooted, picked, state, tally-at, top, earlier, later}
 use Rattle.schema.specs.Plans.{no-root, entry, entries, plan-of}
 use Rattle.schema.specs.Progress.{Sized, Counted, pattern-items, root-items}
-use Rattle.schema.specs.declared.item.Item.{Item}
-use Rattle.schema.specs.declared.item.Item.the-variants.{Nothing, Atom, Event, Both, Either, Repeat, Root, Pick, Relate, AtMost, Unknown}
+use Rattle.items.specs.declared.item.Item.{Item}
+use Rattle.items.specs.declared.item.Item.the-variants.{Nothing, Atom, Event, Both, Either, Repeat, Root, Pick, Relate, AtMost, Unknown}
 use Rattle.schema.specs.declared.plan.Plan.{Plan}
 use Rattle.schema.specs.declared.plan.Root.{Root as Entry}
 use Rattle.schema.specs.declared.progress.Progress.{Progress}
+use Rattle.items.specs.Asked.{asked}
 use Rattle.schema.specs.Questions.{asked-at}
 use Rattle.std.specs.declared.option.Option.the-variants.{None}
-use Rattle.schema.proofs.Passing.{Found, passed-at}
+use Rattle.items.specs.declared.ask.Tally.{Tally}
+use Rattle.items.proofs.Passing.{Suited, Found, asked-passed}
 
 -- One more root.
 
@@ -83,32 +85,47 @@ left (Relate r) w = w
 left (AtMost n) w = w
 left Unknown w = w
 
+abbrev pub tallied : ℕ → ℕ → ℕ → ℕ → Tally
+tallied r c w p = record { roots = r; closed = c; patterns = w; picks = p }
+
 -- what such an item does to the patterns that wait
-pub record Built (it : Item) (ps : List Pattern) (r c : ℕ) : Type 0 where
-  pub early : c < r
+pub record Built (it : Item) (ps : List Pattern) : Type 0 where
   pub waits : length (stacked it ps) ≡ left it (length ps)
   pub some : 0 < length (stacked it ps)
   pub more : length (stacked it ps) ≤ suc (length ps)
   pub items : pattern-items (stacked it ps) ≡ suc (pattern-items ps)
 
-pub built : (it : Item) (ps : List Pattern) (r c p : ℕ) → Builds it → Found it r c (length ps) p → Built it ps r c
-built Nothing ps r c p h f = record { early = f; waits = omega arith; some = omega arith; more = omega arith; items = omega arith }
-built (Atom t) ps r c p h f = record { early = f; waits = omega arith; some = omega arith; more = omega arith; items = omega arith }
+pub built : (it : Item) (ps : List Pattern) (r c p : ℕ) → Builds it → Found (tallied r c (length ps) p) it → Built it ps
+built Nothing ps r c p h f = record { waits = omega arith; some = omega arith; more = omega arith; items = omega arith }
+built (Atom t) ps r c p h f = record { waits = omega arith; some = omega arith; more = omega arith; items = omega arith }
 built (Event t) [] r c p h f = absurd (omega (arith, f .1))
-built (Event t) (q ∷ ps) r c p h f = record { early = f .0; waits = refl; some = omega arith; more = omega arith; items = omega arith }
+built (Event t) (q ∷ ps) r c p h f = record { waits = refl; some = omega arith; more = omega arith; items = omega arith }
 built (Both o) [] r c p h f = absurd (omega (arith, f .1))
 built (Both o) (q ∷ []) r c p h f = absurd (omega (arith, f .1))
-built (Both o) (q ∷ (x ∷ ps)) r c p h f = record { early = f .0; waits = omega arith; some = omega arith; more = omega arith; items = omega arith }
+built (Both o) (q ∷ (x ∷ ps)) r c p h f = record { waits = omega arith; some = omega arith; more = omega arith; items = omega arith }
 built Either [] r c p h f = absurd (omega (arith, f .1))
 built Either (q ∷ []) r c p h f = absurd (omega (arith, f .1))
-built Either (q ∷ (x ∷ ps)) r c p h f = record { early = f .0; waits = omega arith; some = omega arith; more = omega arith; items = omega arith }
+built Either (q ∷ (x ∷ ps)) r c p h f = record { waits = omega arith; some = omega arith; more = omega arith; items = omega arith }
 built (Repeat o x y) [] r c p h f = absurd (omega (arith, f .1))
-built (Repeat o x y) (q ∷ ps) r c p h f = record { early = f .0; waits = refl; some = omega arith; more = omega arith; items = omega arith }
+built (Repeat o x y) (q ∷ ps) r c p h f = record { waits = refl; some = omega arith; more = omega arith; items = omega arith }
 built (Root t) ps r c p h f = absurd h
 built (Pick x) ps r c p h f = absurd h
 built (Relate o) ps r c p h f = absurd h
 built (AtMost n) ps r c p h f = absurd h
 built Unknown ps r c p h f = absurd h
+
+pub early : (it : Item) (t : Tally) → Builds it → Found t it → t .closed < t .roots
+early Nothing t h f = f
+early (Atom x) t h f = f
+early (Event x) t h f = f .0
+early (Both o) t h f = f .0
+early Either t h f = f .0
+early (Repeat o x y) t h f = f .0
+early (Root x) t h f = absurd h
+early (Pick x) t h f = absurd h
+early (Relate o) t h f = absurd h
+early (AtMost n) t h f = absurd h
+early Unknown t h f = absurd h
 
 rooted-builds : (it : Item) (ps : List Pattern) (rs : List Rooted) → Builds it → rooted it ps rs ≡ rs
 rooted-builds Nothing ps rs h = refl
@@ -139,87 +156,92 @@ picked-builds Unknown xs h = refl
 -- what an item that closes no root leaves
 pub record Same (g h : Progress) : Type 0 where
   pub scope : h .scope ≡ g .scope
-  pub roots : h .roots ≡ g .roots
-  pub closed : h .closed ≡ g .closed
   pub total : h .total ≡ g .total
   pub length : h .length ≡ g .length
   pub plan : h .plan ≡ g .plan
 
--- what an item finds in a table
-abbrev pub Found-at : List ℕ → ℕ → Item → Type 0
-Found-at b i it = Found it (root-count b) (length (state b i .roots)) (length (state b i .patterns)) (length (state b i .picks))
+-- what questions 4 to 6 tell of item i
+pub suited-at : (b : List ℕ) (s i : ℕ) (it : Item) → asked-at b s i ≡ None → it ≡ item-at b i → Suited s (root-count b) it
+unfolding asked-at
+suited-at b s i it e is = asked-passed s (tally-at b i) it (argument-at b i) (ap (λ x. asked s (tally-at b i) x (argument-at b i)) is ∙ e) .suited
+
+pub found-at : (b : List ℕ) (s i : ℕ) (it : Item) → asked-at b s i ≡ None → it ≡ item-at b i → Found (tally-at b i) it
+unfolding asked-at
+found-at b s i it e is = asked-passed s (tally-at b i) it (argument-at b i) (ap (λ x. asked s (tally-at b i) x (argument-at b i)) is ∙ e) .found
 
 module _ (b : List ℕ) (i : ℕ) (g : Progress) (c : Counted b i g) where
-  -- the counts of the roots, where they are as they were
+  -- where the roots are as they were
   kept : (h : Progress) → Same g h → state b (suc i) .roots ≡ state b i .roots
-      → h .waiting ≡ length (state b (suc i) .patterns) → h .picks ≡ length (state b (suc i) .picks) → h .earlier ≡ earlier (state b (suc i) .picks) → h .later ≡ later (state b (suc i) .picks)
+      → h .tally ≡ tally-at b (suc i) → h .earlier ≡ earlier (state b (suc i) .picks) → h .later ≡ later (state b (suc i) .picks)
       → length (state b (suc i) .patterns) ≤ suc i
       → (length (state b (suc i) .roots) < root-count b → suc i ≡ root-items (state b (suc i) .roots) + pattern-items (state b (suc i) .patterns))
       → (length (state b (suc i) .roots) ≡ root-count b → length (state b (suc i) .patterns) ≡ 0)
       → Counted b (suc i) h
-  kept h k e w p x y le pl ov =
-      record {
-        stated = k .roots ∙ c .stated;
-        patterns = w;
-        closed = k .closed ∙ (c .closed ∙ ap length (sym e));
-        picks = p;
-        earlier = x;
-        later = y;
-        total = k .total ∙ (c .total ∙ ap₂ (λ s l. count-capped (candidates s l)) (sym (k .scope)) (sym e));
-        sum = k .length ∙ (c .sum ∙ ap₂ events (sym (k .scope)) (sym e));
-        plan = k .plan ∙ (c .plan ∙ ap₂ plan-of (sym (k .scope)) (sym e));
-        fewer = omega (arith, ap length e, c .fewer);
-        short = omega (arith, ap length e, ap₂ events (k .scope) e, c .short);
-        waits = le;
-        place = pl;
-        over = ov;
-      }
+  kept h k e t x y le pl ov = record {
+    tally = t;
+    earlier = x;
+    later = y;
+    total = k .total ∙ (c .total ∙ ap₂ (λ s l. count-capped (candidates s l)) (sym (k .scope)) (sym e));
+    sum = k .length ∙ (c .sum ∙ ap₂ events (sym (k .scope)) (sym e));
+    plan = k .plan ∙ (c .plan ∙ ap₂ plan-of (sym (k .scope)) (sym e));
+    fewer = omega (arith, ap length e, c .fewer);
+    short = omega (arith, ap length e, ap₂ events (k .scope) e, c .short);
+    waits = le;
+    place = pl;
+    over = ov;
+  }
 
-  pub builds : (it : Item) → it ≡ item-at b i → Builds it → Found-at b i it → (h : Progress) → h .waiting ≡ left it (g .waiting)
-      → h .picks ≡ g .picks → h .earlier ≡ g .earlier → h .later ≡ g .later → Same g h → Counted b (suc i) h
-  builds it is bu f h w p x y k =
+  pub builds : (it : Item) → it ≡ item-at b i → Builds it → Found (tally-at b i) it → (h : Progress)
+      → h .tally ≡ tallied (g .tally .roots) (g .tally .closed) (left it (g .tally .patterns)) (g .tally .picks) → h .earlier ≡ g .earlier → h .later ≡ g .later → Same g h → Counted b (suc i) h
+  builds it is bu f h t x y k =
       let ps = state b i .patterns in
       let rs = state b i .roots in
       let u = built it ps (root-count b) (length rs) (length (state b i .picks)) bu f in
+      let lt : length rs < root-count b = early it (tally-at b i) bu f in
       let e : state b (suc i) .roots ≡ rs = ap (λ z. rooted z ps rs) (sym is) ∙ rooted-builds it ps rs bu in
       let q : state b (suc i) .picks ≡ state b i .picks = ap (λ z. picked z (state b i .picks)) (sym is) ∙ picked-builds it (state b i .picks) bu in
       let st : state b (suc i) .patterns ≡ stacked it ps = ap (λ z. stacked z ps) (sym is) in
-      kept h k e (w ∙ (ap (left it) (c .patterns) ∙ (sym (u .waits) ∙ ap length (sym st)))) (p ∙ (c .picks ∙ ap length (sym q)))
+      let w : length (state b (suc i) .patterns) ≡ left it (length ps) = ap length st ∙ u .waits in
+      kept h k e
+      (t ∙ (ap (λ (v : Tally). tallied (v .roots) (v .closed) (left it (v .patterns)) (v .picks)) (c .tally) ∙ same-tally (root-count b) (ap length (sym e)) (sym w) (ap length (sym q))))
       (x ∙ (c .earlier ∙ ap earlier (sym q))) (y ∙ (c .later ∙ ap later (sym q)))
       (omega (arith, ap length st, u .more, c .waits))
-      (λ lt. omega (arith, ap root-items e, ap pattern-items st, u .items, c .place (u .early)))
-      (λ o. absurd (omega (arith, ap length e, u .early)))
+      (λ l. omega (arith, ap root-items e, ap pattern-items st, u .items, c .place lt))
+      (λ o. absurd (omega (arith, ap length e, lt)))
+    where
+      same-tally : (r : ℕ) {a a′ w w′ p p′ : ℕ} → a ≡ a′ → w ≡ w′ → p ≡ p′ → tallied r a w p ≡ tallied r a′ w′ p′
+      same-tally r d e f = cc
 
   -- the same by the arms of the code: an item that adds a pattern, one that changes one, and one that joins two
-  by-kind : (it x : Item) → it ≡ item-at b i → it ≡ x → Builds x → asked-at b (g .scope) i ≡ None → (h : Progress) → h .waiting ≡ left x (g .waiting)
-      → h .picks ≡ g .picks → h .earlier ≡ g .earlier → h .later ≡ g .later → Same g h → Counted b (suc i) h
-  by-kind it x is e bu pa = let ix = sym e ∙ is in builds x ix bu (passed-at b (g .scope) i x pa ix .found)
+  by-kind : (it x : Item) → it ≡ item-at b i → it ≡ x → Builds x → asked-at b (g .scope) i ≡ None → (h : Progress)
+      → h .tally ≡ tallied (g .tally .roots) (g .tally .closed) (left x (g .tally .patterns)) (g .tally .picks) → h .earlier ≡ g .earlier → h .later ≡ g .later → Same g h → Counted b (suc i) h
+  by-kind it x is e bu pa = let ix = sym e ∙ is in builds x ix bu (found-at b (g .scope) i x pa ix)
 
-  pub adds : (it : Item) → it ≡ item-at b i → asked-at b (g .scope) i ≡ None → (it ≡ Nothing) ⊎ ((t : ℕ) × (it ≡ Atom t)) → (h : Progress) → h .waiting ≡ g .waiting + 1
-      → h .picks ≡ g .picks → h .earlier ≡ g .earlier → h .later ≡ g .later → Same g h → Counted b (suc i) h
+  pub adds : (it : Item) → it ≡ item-at b i → asked-at b (g .scope) i ≡ None → (it ≡ Nothing) ⊎ ((t : ℕ) × (it ≡ Atom t)) → (h : Progress)
+      → h .tally ≡ tallied (g .tally .roots) (g .tally .closed) (g .tally .patterns + 1) (g .tally .picks) → h .earlier ≡ g .earlier → h .later ≡ g .later → Same g h → Counted b (suc i) h
   adds it is pa (inl e) = by-kind it Nothing is e tt pa
   adds it is pa (inr e) = by-kind it (Atom (e .0)) is (e .1) tt pa
 
-  pub changes : (it : Item) → it ≡ item-at b i → asked-at b (g .scope) i ≡ None → ((t : ℕ) × (it ≡ Event t)) ⊎ ((o : Order) × (x : ℕ) × (y : ℕ) × (it ≡ Repeat o x y)) → (h : Progress) → h .waiting ≡ g .waiting
-      → h .picks ≡ g .picks → h .earlier ≡ g .earlier → h .later ≡ g .later → Same g h → Counted b (suc i) h
+  pub changes : (it : Item) → it ≡ item-at b i → asked-at b (g .scope) i ≡ None → ((t : ℕ) × (it ≡ Event t)) ⊎ ((o : Order) × (x : ℕ) × (y : ℕ) × (it ≡ Repeat o x y)) → (h : Progress)
+      → h .tally ≡ g .tally → h .earlier ≡ g .earlier → h .later ≡ g .later → Same g h → Counted b (suc i) h
   changes it is pa (inl e) = by-kind it (Event (e .0)) is (e .1) tt pa
   changes it is pa (inr e) = by-kind it (Repeat (e .0) (e .1) (e .2)) is (e .3) tt pa
 
-  pub joins : (it : Item) → it ≡ item-at b i → asked-at b (g .scope) i ≡ None → ((o : Order) × (it ≡ Both o)) ⊎ (it ≡ Either) → (h : Progress) → h .waiting ≡ g .waiting - 1
-      → h .picks ≡ g .picks → h .earlier ≡ g .earlier → h .later ≡ g .later → Same g h → Counted b (suc i) h
+  pub joins : (it : Item) → it ≡ item-at b i → asked-at b (g .scope) i ≡ None → ((o : Order) × (it ≡ Both o)) ⊎ (it ≡ Either) → (h : Progress)
+      → h .tally ≡ tallied (g .tally .roots) (g .tally .closed) (g .tally .patterns - 1) (g .tally .picks) → h .earlier ≡ g .earlier → h .later ≡ g .later → Same g h → Counted b (suc i) h
   joins it is pa (inl e) = by-kind it (Both (e .0)) is (e .1) tt pa
   joins it is pa (inr e) = by-kind it Either is e tt pa
 
-  pub two-wait : (it : Item) → it ≡ item-at b i → asked-at b (g .scope) i ≡ None → ((o : Order) × (it ≡ Both o)) ⊎ (it ≡ Either) → 2 ≤ g .waiting
-  two-wait it is pa (inl e) = omega (arith, passed-at b (g .scope) i (Both (e .0)) pa (sym (e .1) ∙ is) .found .1, c .patterns)
-  two-wait it is pa (inr e) = omega (arith, passed-at b (g .scope) i Either pa (sym e ∙ is) .found .1, c .patterns)
+  pub two-wait : (it : Item) → it ≡ item-at b i → asked-at b (g .scope) i ≡ None → ((o : Order) × (it ≡ Both o)) ⊎ (it ≡ Either) → 2 ≤ g .tally .patterns
+  two-wait it is pa (inl e) = omega (arith, found-at b (g .scope) i (Both (e .0)) pa (sym (e .1) ∙ is) .1, ap (λ (v : Tally). v .patterns) (c .tally))
+  two-wait it is pa (inr e) = omega (arith, found-at b (g .scope) i Either pa (sym e ∙ is) .1, ap (λ (v : Tally). v .patterns) (c .tally))
 
-  pub closes : (t : ℕ) → Root t ≡ item-at b i → Sized b → Found-at b i (Root t) → (m : Measure) → m ≡ measure-of (g .scope) (event t (top (state b i .patterns))) → m .count ≤ most-candidates → m .length ≤ most-events → (h : Progress)
-      → h .scope ≡ g .scope → h .roots ≡ g .roots → h .waiting ≡ 0 → h .closed ≡ g .closed + 1 → h .picks ≡ g .picks → h .earlier ≡ g .earlier → h .later ≡ g .later
+  pub closes : (t : ℕ) → Root t ≡ item-at b i → Sized b → Found (tally-at b i) (Root t) → (m : Measure) → m ≡ measure-of (g .scope) (event t (top (state b i .patterns))) → m .count ≤ most-candidates → m .length ≤ most-events → (h : Progress)
+      → h .scope ≡ g .scope → h .tally ≡ tallied (g .tally .roots) (g .tally .closed + 1) 0 (g .tally .picks) → h .earlier ≡ g .earlier → h .later ≡ g .later
       → h .total ≡ count-capped (g .total * m .count) → h .length ≡ g .length + m .length
-      → h .plan .roots ≡ set (g .plan .roots) (g .closed) (record { event = t; item = i; count = m .count; length = m .length })
+      → h .plan .roots ≡ set (g .plan .roots) (g .tally .closed) (record { event = t; item = i; count = m .count; length = m .length })
       → Counted b (suc i) h
-  closes t is z f m me mc ml h hs hn hw hc hp hx hy ht hl hr =
+  closes t is z f m me mc ml h hs hw hx hy ht hl hr =
       let s = g .scope in
       let ps = state b i .patterns in
       let rs = state b i .roots in
@@ -233,16 +255,14 @@ module _ (b : List ℕ) (i : ℕ) (g : Progress) (c : Counted b i g) where
       let v : events s (state b (suc i) .roots) ≡ events s rs + (len s (top ps) + 1) = ap (events s) e1 ∙ events-push s rs r in
       let one : pattern-items ps ≡ size (top ps) = single ps (f .1) in
       let at : i ≡ root-items rs + size (top ps) = omega (arith, c .place (f .0), one) in
+      let tl : tallied (root-count b) (length rs + 1) 0 (length (state b i .picks)) ≡ tally-at b (suc i) = let n′ = sym n in let p′ = ap length (sym e2) in let w′ = ap length (sym e3) in cc in
       record {
-        stated = hn ∙ c .stated;
-        patterns = hw ∙ ap length (sym e3);
-        closed = omega (arith, n, c .closed);
-        picks = hp ∙ (c .picks ∙ ap length (sym e2));
+        tally = hw ∙ (ap (λ (v : Tally). tallied (v .roots) (v .closed + 1) 0 (v .picks)) (c .tally) ∙ tl);
         earlier = hx ∙ (c .earlier ∙ ap earlier (sym e2));
         later = hy ∙ (c .later ∙ ap later (sym e2));
         total = ht ∙ (ap₂ (λ u w. count-capped (u * w)) (c .total) x ∙ (min-mul-left (most-candidates + 1) (candidates s rs) (count s (top ps)) ∙ (ap count-capped (sym (candidates-push s rs r)) ∙ ap₂ (λ a l. count-capped (candidates a l)) (sym hs) (sym e1))));
         sum = omega (arith, hl, v, c .sum, y, ap (λ a. events a (state b (suc i) .roots)) hs);
-        plan = ap planned (hr ∙ (ap₂ (λ u w. set u w (record { event = t; item = i; count = m .count; length = m .length })) (ap (λ (a : Plan). a .roots) (c .plan)) (c .closed)
+        plan = ap planned (hr ∙ (ap₂ (λ u w. set u w (record { event = t; item = i; count = m .count; length = m .length })) (ap (λ (a : Plan). a .roots) (c .plan)) (ap (λ (a : Tally). a .closed) (c .tally))
             ∙ (ap₂ (λ u w. set (plan-of s rs .roots) (length rs) (record { event = t; item = i; count = u; length = w })) x y
             ∙ plan-push s i rs r (omega (arith, f .0, z .roots)) at))) ∙ ap₂ plan-of (sym hs) (sym e1);
         fewer = omega (arith, n, f .0);
@@ -261,28 +281,30 @@ module _ (b : List ℕ) (i : ℕ) (g : Progress) (c : Counted b i g) where
       planned rs = record { roots = rs }
 
   -- items after the last root: a pick, and an operation
-  late : (it : Item) → it ≡ item-at b i → length (state b i .roots) ≡ root-count b → state b (suc i) .roots ≡ state b i .roots → state b (suc i) .patterns ≡ [] → (h : Progress)
-      → h .waiting ≡ g .waiting → h .picks ≡ length (state b (suc i) .picks) → h .earlier ≡ earlier (state b (suc i) .picks) → h .later ≡ later (state b (suc i) .picks) → Same g h → Counted b (suc i) h
-  late it is f e st h w p x y k =
-      kept h k e (omega (arith, w, c .patterns, c .over f, ap length st)) p x y (omega (arith, ap length st)) (λ lt. absurd (omega (arith, ap length e, f))) (λ o. ap length st)
+  late : (it : Item) → it ≡ item-at b i → length (state b i .roots) ≡ root-count b → state b (suc i) .roots ≡ state b i .roots → state b (suc i) .patterns ≡ [] → (n : ℕ) → n ≡ length (state b (suc i) .picks) → (h : Progress)
+      → h .tally ≡ tallied (g .tally .roots) (g .tally .closed) (g .tally .patterns) n → h .earlier ≡ earlier (state b (suc i) .picks) → h .later ≡ later (state b (suc i) .picks) → Same g h → Counted b (suc i) h
+  late it is f e st n p h t x y k =
+      let none : length (state b i .patterns) ≡ length (state b (suc i) .patterns) = c .over f ∙ ap length (sym st) in
+      let tl : tallied (root-count b) (length (state b i .roots)) (length (state b i .patterns)) n ≡ tally-at b (suc i) = let c′ = ap length (sym e) in cc in
+      kept h k e (t ∙ (ap (λ (v : Tally). tallied (v .roots) (v .closed) (v .patterns) n) (c .tally) ∙ tl)) x y (omega (arith, ap length st)) (λ lt. absurd (omega (arith, ap length e, f))) (λ o. ap length st)
 
-  pub picks : (x : Selection) → Pick x ≡ item-at b i → Found-at b i (Pick x) → (h : Progress)
-      → h .waiting ≡ g .waiting → h .picks ≡ g .picks + 1 → h .earlier ≡ g .later → h .later ≡ x → Same g h → Counted b (suc i) h
-  picks x is f h hw hp hx hy k =
+  pub picks : (x : Selection) → Pick x ≡ item-at b i → Found (tally-at b i) (Pick x) → (h : Progress)
+      → h .tally ≡ tallied (g .tally .roots) (g .tally .closed) (g .tally .patterns) (g .tally .picks + 1) → h .earlier ≡ g .later → h .later ≡ x → Same g h → Counted b (suc i) h
+  picks x is f h t hx hy k =
       let e : state b (suc i) .picks ≡ x ∷ state b i .picks = ap (λ z. picked z (state b i .picks)) (sym is) in
-      late (Pick x) is (f .0) (ap (λ z. rooted z (state b i .patterns) (state b i .roots)) (sym is)) (ap (λ z. stacked z (state b i .patterns)) (sym is)) h hw
-      (omega (arith, hp, ap length e, c .picks)) (hx ∙ (c .later ∙ ap earlier (sym e))) (hy ∙ ap later (sym e)) k
+      late (Pick x) is (f .0) (ap (λ z. rooted z (state b i .patterns) (state b i .roots)) (sym is)) (ap (λ z. stacked z (state b i .patterns)) (sym is)) (g .tally .picks + 1)
+      (omega (arith, ap length e, ap (λ (v : Tally). v .picks) (c .tally))) h t (hx ∙ (c .later ∙ ap earlier (sym e))) (hy ∙ ap later (sym e)) k
 
   -- the picks that waited are taken
   taken : (it : Item) → it ≡ item-at b i → picked it (state b i .picks) ≡ [] → rooted it (state b i .patterns) (state b i .roots) ≡ state b i .roots → stacked it (state b i .patterns) ≡ []
       → length (state b i .roots) ≡ root-count b → (h : Progress)
-      → h .waiting ≡ g .waiting → h .picks ≡ 0 → h .earlier ≡ earlier [] → h .later ≡ later [] → Same g h → Counted b (suc i) h
-  taken it is ep er es f h hw hp hx hy k =
+      → h .tally ≡ tallied (g .tally .roots) (g .tally .closed) (g .tally .patterns) 0 → h .earlier ≡ earlier [] → h .later ≡ later [] → Same g h → Counted b (suc i) h
+  taken it is ep er es f h t hx hy k =
       let e : state b (suc i) .picks ≡ [] = ap (λ z. picked z (state b i .picks)) (sym is) ∙ ep in
-      late it is f (ap (λ z. rooted z (state b i .patterns) (state b i .roots)) (sym is) ∙ er) (ap (λ z. stacked z (state b i .patterns)) (sym is) ∙ es) h hw
-      (hp ∙ ap length (sym e)) (hx ∙ ap earlier (sym e)) (hy ∙ ap later (sym e)) k
+      late it is f (ap (λ z. rooted z (state b i .patterns) (state b i .roots)) (sym is) ∙ er) (ap (λ z. stacked z (state b i .patterns)) (sym is) ∙ es) 0
+      (ap length (sym e)) h t (hx ∙ ap earlier (sym e)) (hy ∙ ap later (sym e)) k
 
   pub operates : (it : Item) → it ≡ item-at b i → asked-at b (g .scope) i ≡ None → ((r : Relation) × (it ≡ Relate r)) ⊎ ((n : ℕ) × (it ≡ AtMost n)) → (h : Progress)
-      → h .waiting ≡ g .waiting → h .picks ≡ 0 → h .earlier ≡ earlier [] → h .later ≡ later [] → Same g h → Counted b (suc i) h
-  operates it is pa (inl e) = let ix = sym (e .1) ∙ is in taken (Relate (e .0)) ix refl refl refl (passed-at b (g .scope) i (Relate (e .0)) pa ix .found .0)
-  operates it is pa (inr e) = let ix = sym (e .1) ∙ is in taken (AtMost (e .0)) ix refl refl refl (passed-at b (g .scope) i (AtMost (e .0)) pa ix .found .0)
+      → h .tally ≡ tallied (g .tally .roots) (g .tally .closed) (g .tally .patterns) 0 → h .earlier ≡ earlier [] → h .later ≡ later [] → Same g h → Counted b (suc i) h
+  operates it is pa (inl e) = let ix = sym (e .1) ∙ is in taken (Relate (e .0)) ix refl refl refl (found-at b (g .scope) i (Relate (e .0)) pa ix .0)
+  operates it is pa (inr e) = let ix = sym (e .1) ∙ is in taken (AtMost (e .0)) ix refl refl refl (found-at b (g .scope) i (AtMost (e .0)) pa ix .0)

@@ -18,20 +18,24 @@ use Rattle.questions.specs.declared.question.Question.the-variants.{Sharing}
 use Rattle.questions.specs.declared.refusal.Refusal.{Refusal}
 use Rattle.grammar.specs.Pattern.{count, len}
 use Rattle.grammar.specs.Schema.{Rooted, Schema, candidates, events}
-use Rattle.grammar.specs.declared.part.Order.the-variants.{InOrder, AsSet}
 use Rattle.grammar.specs.declared.part.Relation.the-variants.{Share, Coordinate, AsMany, NoMore, FewerBefore}
 use Rattle.grammar.specs.declared.part.Selection.{Selection}
-use Rattle.schema.specs.Items.{item-count, root-count, kind-at, argument-at, item-at, kind-of, argument-of}
-use Rattle.schema.specs.Reading.{State, start, step, state, made, earlier, later, schema-of}
+use Rattle.items.specs.Items.{kind-of, argument-of}
+use Rattle.items.specs.Asked.{asked, sized, closing}
+use Rattle.items.specs.declared.ask.Tally.{Tally}
+use Rattle.schema.specs.Bytes.{item-count, root-count, kind-at, argument-at, item-at}
+use Rattle.schema.specs.Reading.{State, start, step, state, tally-at, made, earlier, later, schema-of}
 use Rattle.schema.specs.Plans.{plan-of}
-use Rattle.schema.specs.Questions.{asked, asked-at, encloses, enclosed, shares, shared, shared-at, sized, sized-at, made-at, asks, first-no, opening, closing, closing-at, answered, from, verdict, planned}
+use Rattle.schema.specs.Questions.{asked-at, encloses, enclosed, shares, shared, shared-at, sized-at, made-at, asks, first-no, opening, closing-at, answered, from, verdict, planned}
 use Rattle.schema.specs.Writing.{items-of, roots-written, coded, writing}
-use Rattle.schema.specs.Within.{Small, Within}
+use Rattle.grammar.specs.Fits.{Small}
+use Rattle.schema.specs.Within.{Within}
 use Rattle.schema.specs.Promises.{Writes, Accepted, Tables-are-schemas}
-use Rattle.schema.specs.declared.item.Item.{Item}
-use Rattle.schema.specs.declared.item.Item.the-variants.{Nothing, Atom, Event, Both, Either, Repeat, Root, Pick, Relate, AtMost, Unknown}
+use Rattle.items.specs.declared.item.Item.{Item}
+use Rattle.items.specs.declared.item.Item.the-variants.{Nothing, Atom, Event, Both, Either, Repeat, Root, Pick, Relate, AtMost, Unknown}
 use Rattle.schema.specs.declared.plan.Plan.{Plan}
-use Rattle.schema.proofs.Passing.{Found, Suited, passed-asked, passed-at}
+use Rattle.items.proofs.Passing.{Suited, passed-asked, asked-says}
+use Rattle.schema.proofs.Steps.{suited-at, found-at}
 use Rattle.schema.proofs.Verdicts.{sized-none, asks-sized, opened, Opened, verdict-from, from-last, ended, planned-yes}
 use Rattle.schema.proofs.Advance.{advance, advance-append, Unenclosed, unenclosed-append, Related, Shared, Good, Passing, join, split, between, passes-schema, leaves-schema}
 use Rattle.schema.proofs.Through.{unenclosed-parts, held, Read, reads}
@@ -44,19 +48,19 @@ advanced b (suc n) = advance-append (firsts b n) (item-at b n ∷ []) start ∙ 
 
 -- Types that no item encloses.
 
-none-enclosed : (b : List ℕ) (t n : ℕ) → ((j : ℕ) → j < n → Says b j) → enclosed b t n ≡ false → Unenclosed t (firsts b n)
-none-enclosed b t zero says e = tt
-none-enclosed b t (suc n) says e = go (none-enclosed b t n (λ j l. says j (omega arith))) (encloses (kind-at b n) (argument-at b n) t) refl e
+none-enclosed : (b : List ℕ) (t n : ℕ) → enclosed b t n ≡ false → Unenclosed t (firsts b n)
+none-enclosed b t zero e = tt
+none-enclosed b t (suc n) e = go (none-enclosed b t n) (encloses (item-at b n) t) refl e
   where
-    go : (enclosed b t n ≡ false → Unenclosed t (firsts b n)) → (x : Bool) → encloses (kind-at b n) (argument-at b n) t ≡ x → cond x true (enclosed b t n) ≡ false → Unenclosed t (firsts b n ++ (item-at b n ∷ []))
+    go : (enclosed b t n ≡ false → Unenclosed t (firsts b n)) → (x : Bool) → encloses (item-at b n) t ≡ x → cond x true (enclosed b t n) ≡ false → Unenclosed t (firsts b n ++ (item-at b n ∷ []))
     go f true ex h = let z : _≡_ {A = ℕ} 0 1 = cc in absurd (omega arith)
-    go f false ex h = unenclosed-append t (firsts b n) (item-at b n ∷ []) (f h) (ap₂ (λ u v. encloses u v t) (says n (omega arith) .0) (says n (omega arith) .1) ∙ ex, tt)
+    go f false ex h = unenclosed-append t (firsts b n) (item-at b n ∷ []) (f h) (ex, tt)
 
-enclosed-none : (b : List ℕ) (t n : ℕ) → ((j : ℕ) → j < n → Says b j) → Unenclosed t (firsts b n) → enclosed b t n ≡ false
-enclosed-none b t zero says u = refl
-enclosed-none b t (suc n) says u =
+enclosed-none : (b : List ℕ) (t n : ℕ) → Unenclosed t (firsts b n) → enclosed b t n ≡ false
+enclosed-none b t zero u = refl
+enclosed-none b t (suc n) u =
     let a = unenclosed-parts t (firsts b n) (item-at b n ∷ []) u in
-    ap (λ o. cond o true (enclosed b t n)) (ap₂ (λ u v. encloses u v t) (sym (says n (omega arith) .0)) (sym (says n (omega arith) .1)) ∙ a .1 .0) ∙ enclosed-none b t n (λ j l. says j (omega arith)) (a .0)
+    ap (λ o. cond o true (enclosed b t n)) (a .1 .0) ∙ enclosed-none b t n (a .0)
 
 -- An item with no "no" is good.
 
@@ -80,36 +84,36 @@ shares-related b all x y u e =
     let g = and-parts (not (eqb (x .root) (y .root))) (not held) (h .1) in
     (eqb-true (x .event) (y .event) (h .0), eqb-false (x .root) (y .root) (not-true (eqb (x .root) (y .root)) (g .0)), u (x .event) (not-true held (g .1)))
 
-shared-good : (b : List ℕ) (all : List Item) (it : Item) (k : ℕ) (xs : List Selection) → ((t : ℕ) → enclosed b t (item-count b) ≡ false → Unenclosed t all) → kind-of it ≡ k → shared b k (earlier xs) (later xs) ≡ None → Shared all it xs
-shared-good b all Nothing k xs u e h = tt
-shared-good b all (Atom t) k xs u e h = tt
-shared-good b all (Event t) k xs u e h = tt
-shared-good b all (Both o) k xs u e h = tt
-shared-good b all Either k xs u e h = tt
-shared-good b all (Repeat o x y) k xs u e h = tt
-shared-good b all (Root t) k xs u e h = tt
-shared-good b all (Pick x) k xs u e h = tt
-shared-good b all (Relate Share) k xs u e h = shares-related b all (earlier xs) (later xs) u (cond-none (shares b (earlier xs) (later xs)) Sharing (subst (λ j. shared b j (earlier xs) (later xs) ≡ None) (sym e) h))
-shared-good b all (Relate Coordinate) k xs u e h = tt
-shared-good b all (Relate AsMany) k xs u e h = tt
-shared-good b all (Relate NoMore) k xs u e h = tt
-shared-good b all (Relate FewerBefore) k xs u e h = tt
-shared-good b all (AtMost n) k xs u e h = tt
-shared-good b all Unknown k xs u e h = tt
+shared-good : (b : List ℕ) (all : List Item) (it : Item) (xs : List Selection) → ((t : ℕ) → enclosed b t (item-count b) ≡ false → Unenclosed t all) → shared b it (earlier xs) (later xs) ≡ None → Shared all it xs
+shared-good b all Nothing xs u h = tt
+shared-good b all (Atom t) xs u h = tt
+shared-good b all (Event t) xs u h = tt
+shared-good b all (Both o) xs u h = tt
+shared-good b all Either xs u h = tt
+shared-good b all (Repeat o x y) xs u h = tt
+shared-good b all (Root t) xs u h = tt
+shared-good b all (Pick x) xs u h = tt
+shared-good b all (Relate Share) xs u h = shares-related b all (earlier xs) (later xs) u (cond-none (shares b (earlier xs) (later xs)) Sharing h)
+shared-good b all (Relate Coordinate) xs u h = tt
+shared-good b all (Relate AsMany) xs u h = tt
+shared-good b all (Relate NoMore) xs u h = tt
+shared-good b all (Relate FewerBefore) xs u h = tt
+shared-good b all (AtMost n) xs u h = tt
+shared-good b all Unknown xs u h = tt
 
 says-at : (b : List ℕ) (s i : ℕ) → asks b s i ≡ None → Says b i
-says-at b s i e = let p = passed-at b s i (item-at b i) (asks-parts b s i e .0) refl in (p .kind, p .argument)
+unfolding asked-at item-at
+says-at b s i e = asked-says s (tally-at b i) (kind-at b i) (argument-at b i) (asks-parts b s i e .0)
 
 good-from : (b : List ℕ) (s i : ℕ) (all : List Item) → ((t : ℕ) → enclosed b t (item-count b) ≡ false → Unenclosed t all) → asks b s i ≡ None → Good s (root-count b) all (item-at b i) (state b i)
 unfolding shared-at sized-at made-at
 good-from b s i all u e =
     let h = asks-parts b s i e in
     let it = item-at b i in
-    let p = passed-at b s i it (h .0) refl in
     record {
-      suited = p .suited;
-      found = p .found;
-      shared = shared-good b all it (kind-at b i) (state b i .picks) u (p .kind) (h .1);
+      suited = suited-at b s i it (h .0) refl;
+      found = found-at b s i it (h .0) refl;
+      shared = shared-good b all it (state b i .picks) u (h .1);
       small = sized-none (count s (made it (state b i .patterns))) (len s (made it (state b i .patterns))) (h .2);
     }
 
@@ -127,35 +131,30 @@ related-shares b all x y u h =
     and-from (eqb (x .event) (y .event)) (not (eqb (x .root) (y .root)) && not held) (eq-eqb (x .event) (y .event) (h .0))
     (and-from (not (eqb (x .root) (y .root))) (not held) (not-from-false (eqb (x .root) (y .root)) (ne-eqb (x .root) (y .root) (h .1))) (not-from-false held (u (x .event) (h .2))))
 
-good-shared : (s r : ℕ) (b : List ℕ) (all : List Item) (it : Item) (xs : List Selection) → ((t : ℕ) → Unenclosed t all → enclosed b t (item-count b) ≡ false) → Suited s r it → Shared all it xs → shared b (kind-of it) (earlier xs) (later xs) ≡ None
-good-shared s r b all Nothing xs u k h = refl
-good-shared s r b all (Atom t) xs u k h = refl
-good-shared s r b all (Event t) xs u k h = refl
-good-shared s r b all (Both InOrder) xs u k h = refl
-good-shared s r b all (Both AsSet) xs u k h = refl
-good-shared s r b all Either xs u k h = refl
-good-shared s r b all (Repeat InOrder x y) xs u k h = refl
-good-shared s r b all (Repeat AsSet x y) xs u k h = refl
-good-shared s r b all (Root t) xs u k h = refl
-good-shared s r b all (Pick x) xs u k h = refl
-good-shared s r b all (Relate Share) xs u k h = ap (λ o. cond {A = Option Question} o None (Some Sharing)) (related-shares b all (earlier xs) (later xs) u h)
-good-shared s r b all (Relate Coordinate) xs u k h = refl
-good-shared s r b all (Relate AsMany) xs u k h = refl
-good-shared s r b all (Relate NoMore) xs u k h = refl
-good-shared s r b all (Relate FewerBefore) xs u k h = refl
-good-shared s r b all (AtMost n) xs u k h = refl
-good-shared s r b all Unknown xs u k h = absurd k
+good-shared : (b : List ℕ) (all : List Item) (it : Item) (xs : List Selection) → ((t : ℕ) → Unenclosed t all → enclosed b t (item-count b) ≡ false) → Shared all it xs → shared b it (earlier xs) (later xs) ≡ None
+good-shared b all Nothing xs u h = refl
+good-shared b all (Atom t) xs u h = refl
+good-shared b all (Event t) xs u h = refl
+good-shared b all (Both o) xs u h = refl
+good-shared b all Either xs u h = refl
+good-shared b all (Repeat o x y) xs u h = refl
+good-shared b all (Root t) xs u h = refl
+good-shared b all (Pick x) xs u h = refl
+good-shared b all (Relate Share) xs u h = ap (λ o. cond {A = Option Question} o None (Some Sharing)) (related-shares b all (earlier xs) (later xs) u h)
+good-shared b all (Relate Coordinate) xs u h = refl
+good-shared b all (Relate AsMany) xs u h = refl
+good-shared b all (Relate NoMore) xs u h = refl
+good-shared b all (Relate FewerBefore) xs u h = refl
+good-shared b all (AtMost n) xs u h = refl
+good-shared b all Unknown xs u h = refl
 
 asks-back : (b : List ℕ) (s i : ℕ) (all : List Item) → ((t : ℕ) → Unenclosed t all → enclosed b t (item-count b) ≡ false) → Says b i → Good s (root-count b) all (item-at b i) (state b i) → asks b s i ≡ None
 unfolding asked-at shared-at sized-at made-at
 asks-back b s i all u says g =
     let it = item-at b i in
-    let r = root-count b in
     let S = state b i in
-    let a : asked-at b s i ≡ None =
-    ap₂ (λ k a. asked s r (length (S .roots)) (length (S .patterns)) (length (S .picks)) k a) (sym (says .0)) (sym (says .1))
-    ∙ passed-asked s r (length (S .roots)) (length (S .patterns)) (length (S .picks)) it (g .suited) (g .found) in
-    let h : shared-at b i ≡ None = ap (λ k. shared b k (earlier (S .picks)) (later (S .picks))) (sym (says .0)) ∙ good-shared s r b all it (S .picks) u (g .suited) (g .shared) in
+    let a : asked-at b s i ≡ None = ap (λ a. asked s (tally-at b i) (item-at b i) a) (sym (says .1)) ∙ passed-asked s (tally-at b i) it (g .suited) (g .found) in
+    let h : shared-at b i ≡ None = good-shared b all it (S .picks) u (g .shared) in
     asks-sized b s i a h ∙ fits (count s (made it (S .patterns))) (len s (made it (S .patterns))) (g .small)
   where
     fits : (n l : ℕ) → (n ≤ most-candidates) × (l ≤ most-events) → sized n l ≡ None
@@ -220,9 +219,13 @@ open-back b s o =
       and-from (leb 1 s) (leb s most-scope) (le-leb 1 s (o .scope-from)) (le-leb s most-scope (o .scope-to)),
     ) refl
 
-closing-back : (r c w p t l : ℕ) → c ≡ r → w ≡ 0 → p ≡ 0 → t ≤ most-candidates → l ≤ most-events → closing r c w p t l ≡ None
-closing-back r c w p t l a b d e f =
-    rw (and-from (eqb c r) (eqb w 0 && eqb p 0) (eq-eqb c r a) (and-from (eqb w 0) (eqb p 0) (eq-eqb w 0 b) (eq-eqb p 0 d)), le-leb t most-candidates e, le-leb l most-events f) refl
+closing-back : (t : Tally) (n l : ℕ) → t .closed ≡ t .roots → t .patterns ≡ 0 → t .picks ≡ 0 → n ≤ most-candidates → l ≤ most-events → closing t n l ≡ None
+closing-back t n l a b d e f =
+    rw (
+      and-from (eqb (t .closed) (t .roots)) (eqb (t .patterns) 0 && eqb (t .picks) 0) (eq-eqb (t .closed) (t .roots) a) (and-from (eqb (t .patterns) 0) (eqb (t .picks) 0) (eq-eqb (t .patterns) 0 b) (eq-eqb (t .picks) 0 d)),
+      le-leb n most-candidates e,
+      le-leb l most-events f,
+    ) refl
 
 no-length : {A : Type 0} (l : List A) → length l ≡ 0 → l ≡ []
 no-length [] e = refl
@@ -250,8 +253,8 @@ passes-writes b s bytes h =
     let S = state b n in
     let all = firsts b n in
     let says : (j : ℕ) → j < n → Says b j = λ j l. says-at b s j (h .items j l) in
-    let pa = passing-from b s all (λ t f. none-enclosed b t n says f) n (h .items) in
-    let d = ended r (length (S .roots)) (length (S .patterns)) (length (S .picks)) (candidates s (S .roots)) (events s (S .roots)) (h .end) in
+    let pa = passing-from b s all (λ t f. none-enclosed b t n f) n (h .items) in
+    let d = ended (tally-at b n) (candidates s (S .roots)) (events s (S .roots)) (h .end) in
     let rd = reads s r all (h .sizes .roots-from) pa S (advanced b n) (d .roots) (no-length (S .patterns) (d .patterns)) (no-length (S .picks) (d .picks)) in
     let x = schema-of b in
     let ln : length (items-of x) ≡ n = ap length (sym (rd .items)) ∙ length-firsts b n in (
@@ -314,8 +317,8 @@ writes-passes b s x w =
         scope-from = w .0 .scope-from;
         scope-to = w .0 .scope-to;
       };
-      items = λ j l. asks-back b s j (firsts b n) (λ t u. enclosed-none b t n says u) (says j l) (good-at b s (root-count b) (firsts b n) n pa j l);
-      end = closing-back (root-count b) (length (state b n .roots)) (length (state b n .patterns)) (length (state b n .picks)) (candidates s (state b n .roots)) (events s (state b n .roots))
+      items = λ j l. asks-back b s j (firsts b n) (λ t u. enclosed-none b t n u) (says j l) (good-at b s (root-count b) (firsts b n) n pa j l);
+      end = closing-back (tally-at b n) (candidates s (state b n .roots)) (events s (state b n .roots))
           (ap length ro ∙ sym (d .roots)) (ap (λ (S : State). length (S .patterns)) la) (ap (λ (S : State). length (S .picks)) la)
           (omega (arith, ap (candidates s) ro, w .0 .candidates)) (omega (arith, ap (events s) ro, w .0 .events));
     }

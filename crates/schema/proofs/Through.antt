@@ -14,10 +14,11 @@ use Rattle.grammar.specs.declared.part.Relation.the-variants.{Share, Coordinate
 use Rattle.grammar.specs.declared.part.Selection.{Selection}
 use Rattle.schema.specs.Reading.{State, start, step, stacked, rooted, picked, operated, made, top, earlier, later}
 use Rattle.schema.specs.Writing.{written, roots-written, operation-written, operations-written, items-of}
-use Rattle.schema.specs.Within.{Small, Fits, Roots-fit, Leaf, Leaves, Selects, Relates, Operates, Operate}
-use Rattle.schema.specs.declared.item.Item.{Item}
-use Rattle.schema.specs.declared.item.Item.the-variants.{Nothing, Atom, Event, Both, Either, Repeat, Root, Pick, Relate, AtMost, Unknown}
-use Rattle.schema.proofs.Passing.{Found, Suited}
+use Rattle.grammar.specs.Fits.{Small, Fits, Roots-fit, Leaf, Leaves, Selects, Relates, Operates, Operate}
+use Rattle.items.specs.declared.item.Item.{Item}
+use Rattle.items.specs.declared.item.Item.the-variants.{Nothing, Atom, Event, Both, Either, Repeat, Root, Pick, Relate, AtMost, Unknown}
+use Rattle.items.proofs.Passing.{Found, Suited}
+use Rattle.schema.proofs.Steps.{tallied}
 use Rattle.schema.proofs.Advance.{advance, Unenclosed, Related, Shared, Good, Passing}
 
 -- what waits, as it was written
@@ -75,7 +76,7 @@ fits-top : (s : ℕ) (ps : List Pattern) → length ps ≡ 1 → Fit-all s ps �
 fits-top s [] e a = absurd (omega arith)
 fits-top s (p ∷ ps) e a = a .0
 
-roots-step : (s r c p : ℕ) (it : Item) (ps : List Pattern) (rs : List Rooted) → Suited s r it → Found it r c (length ps) p → Small s (made it ps) → Fit-all s ps → Roots-fit s rs → Roots-fit s (rooted it ps rs)
+roots-step : (s r c p : ℕ) (it : Item) (ps : List Pattern) (rs : List Rooted) → Suited s r it → Found (tallied r c (length ps) p) it → Small s (made it ps) → Fit-all s ps → Roots-fit s rs → Roots-fit s (rooted it ps rs)
 roots-step s r c p Nothing ps rs u f m a b = b
 roots-step s r c p (Atom t) ps rs u f m a b = b
 roots-step s r c p (Event t) ps rs u f m a b = b
@@ -114,7 +115,7 @@ one-pick : (r : ℕ) (xs : List Selection) → length xs ≡ 1 → Select-all r 
 one-pick r [] e a = absurd (omega arith)
 one-pick r (y ∷ xs) e a = a .0
 
-act-step : (s r c w : ℕ) (all : List Item) (it : Item) (xs : List Selection) (os : List Operation) → Suited s r it → Found it r c w (length xs) → Shared all it xs → Select-all r xs → Act-all r all os → Act-all r all (operated it xs os)
+act-step : (s r c w : ℕ) (all : List Item) (it : Item) (xs : List Selection) (os : List Operation) → Suited s r it → Found (tallied r c w (length xs)) it → Shared all it xs → Select-all r xs → Act-all r all os → Act-all r all (operated it xs os)
 act-step s r c w all Nothing xs os u f h a b = b
 act-step s r c w all (Atom t) xs os u f h a b = b
 act-step s r c w all (Event t) xs os u f h a b = b
@@ -176,7 +177,7 @@ operates-more r ps rs xs os fs it o e w (inr h) =
     )
 
 phase-step : (r : ℕ) (it : Item) (ps : List Pattern) (rs : List Rooted) (xs : List Selection) (os : List Operation) (fs : List Item)
-    → Found it r (length rs) (length ps) (length xs) → Phase r ps rs xs os fs → Phase r (stacked it ps) (rooted it ps rs) (picked it xs) (operated it xs os) (fs ++ (it ∷ []))
+    → Found (tallied r (length rs) (length ps) (length xs)) it → Phase r ps rs xs os fs → Phase r (stacked it ps) (rooted it ps rs) (picked it xs) (operated it xs os) (fs ++ (it ∷ []))
 phase-step r Nothing ps rs xs os fs f h = grows r ps (nothing ∷ ps) rs xs os fs Nothing f refl h
 phase-step r (Atom t) ps rs xs os fs f h = grows r ps (atom t ∷ ps) rs xs os fs (Atom t) f refl h
 phase-step r (Event t) [] rs xs os fs f h = absurd (omega (arith, f .1))

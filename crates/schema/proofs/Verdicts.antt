@@ -22,10 +22,13 @@ use Rattle.grammar.specs.Schema.{candidates, events}
 use Rattle.grammar.specs.Measures.{measure-of, count-capped}
 use Rattle.grammar.specs.declared.measure.Measure.{Measure}
 use Rattle.grammar.specs.declared.part.Selection.{Selection}
-use Rattle.schema.specs.Items.{item-count, root-count, kind-at, argument-at}
-use Rattle.schema.specs.Reading.{state, pattern-at, schema-of}
+use Rattle.items.specs.Asked.{asked, sized, closing}
+use Rattle.items.specs.declared.ask.Tally.{Tally}
+use Rattle.items.specs.declared.item.Item.{Item}
+use Rattle.schema.specs.Bytes.{item-count, root-count, argument-at, item-at}
+use Rattle.schema.specs.Reading.{state, tally-at, pattern-at, schema-of}
 use Rattle.schema.specs.Plans.{plan-of}
-use Rattle.schema.specs.Questions.{asked, asked-at, shared, shared-at, sized, sized-at, made-at, asks, first-no, bytes-fit, sizes-fit, opening, closing, closing-at, answered, from, verdict, replaced, planned}
+use Rattle.schema.specs.Questions.{asked-at, shared, shared-at, sized-at, made-at, asks, first-no, bytes-fit, sizes-fit, opening, closing-at, answered, from, verdict, replaced, planned}
 use Rattle.schema.specs.Progress.{Sized, Ends, Knows, no-measure, Counted, Holds}
 use Rattle.schema.specs.declared.known.Known.{Known}
 use Rattle.schema.specs.declared.plan.Plan.{Plan}
@@ -34,14 +37,14 @@ use Rattle.schema.proofs.Waiting.{made-ends}
 
 -- What the check knows is what the questions are asked of.
 
-pub asked-is : (b : List ℕ) (i : ℕ) (g : Progress) → Counted b i g → (k a : ℕ) → k ≡ kind-at b i → a ≡ argument-at b i
-    → asked (g .scope) (g .roots) (g .closed) (g .waiting) (g .picks) k a ≡ asked-at b (g .scope) i
+pub asked-is : (b : List ℕ) (i : ℕ) (g : Progress) → Counted b i g → (it : Item) (a : ℕ) → it ≡ item-at b i → a ≡ argument-at b i → asked (g .scope) (g .tally) it a ≡ asked-at b (g .scope) i
 unfolding asked-at
-asked-is b i g c k a e f = let h1 = c .stated in let h2 = c .closed in let h3 = c .patterns in let h4 = c .picks in cc
+asked-is b i g c it a e f =
+    ap (λ t. asked (g .scope) t it a) (c .tally) ∙ ap₂ (λ x y. asked (g .scope) (tally-at b i) x y) e f
 
-pub shared-is : (b : List ℕ) (i : ℕ) (g : Progress) → Counted b i g → shared b (kind-at b i) (g .earlier) (g .later) ≡ shared-at b i
+pub shared-is : (b : List ℕ) (i : ℕ) (g : Progress) → Counted b i g → (it : Item) → it ≡ item-at b i → shared b it (g .earlier) (g .later) ≡ shared-at b i
 unfolding shared-at
-shared-is b i g c = ap₂ (λ x y. shared b (kind-at b i) x y) (c .earlier) (c .later)
+shared-is b i g c it e = ap (λ x. shared b x (g .earlier) (g .later)) e ∙ ap₂ (λ x y. shared b (item-at b i) x y) (c .earlier) (c .later)
 
 -- a capped number is within the limit as the true one is
 cap-leb : (m x : ℕ) → leb (min x (suc m)) m ≡ leb x m
@@ -169,35 +172,39 @@ planned-yes b s t old h = ap (λ v. replaced v (plan-of s (schema-of b .roots)) 
 
 -- Questions 10 to 12.
 
-pub closing-is : (b : List ℕ) (i : ℕ) (g : Progress) → Counted b i g → i ≡ item-count b
-    → closing (g .roots) (g .closed) (g .waiting) (g .picks) (g .total) (g .length) ≡ closing-at b (g .scope)
+pub closing-is : (b : List ℕ) (i : ℕ) (g : Progress) → Counted b i g → i ≡ item-count b → closing (g .tally) (g .total) (g .length) ≡ closing-at b (g .scope)
 unfolding closing-at
 closing-is b i g c e =
     let s = g .scope in
-    let h1 = c .stated in let h2 = c .closed in let h3 = c .patterns in let h4 = c .picks in let h5 = c .total in let h6 = c .sum in
-    let capped : closing (g .roots) (g .closed) (g .waiting) (g .picks) (g .total) (g .length)
-    ≡ closing (root-count b) (length (state b i .roots)) (length (state b i .patterns)) (length (state b i .picks)) (count-capped (candidates s (state b i .roots))) (events s (state b i .roots)) = cc in
-    capped
-    ∙ (ap (λ (x : Bool). cond {A = Option Question} (eqb (length (state b i .roots)) (root-count b) && (eqb (length (state b i .patterns)) 0 && eqb (length (state b i .picks)) 0)) (cond x (cond (leb (events s (state b i .roots)) most-events) None (Some Events)) (Some Total)) (Some Whole))
+    let t = tally-at b i in
+    ap (λ x. closing x (g .total) (g .length)) (c .tally)
+    ∙ (ap₂ (λ x y. closing (tally-at b i) x y) (c .total) (c .sum)
+    ∙ (ap (λ (x : Bool). cond {A = Option Question} (eqb (t .closed) (t .roots) && (eqb (t .patterns) 0 && eqb (t .picks) 0)) (cond x (cond (leb (events s (state b i .roots)) most-events) None (Some Events)) (Some Total)) (Some Whole))
     (cap-leb most-candidates (candidates s (state b i .roots)))
-    ∙ ap (λ n. closing (root-count b) (length (state b n .roots)) (length (state b n .patterns)) (length (state b n .picks)) (candidates s (state b n .roots)) (events s (state b n .roots))) e)
+    ∙ ap (λ n. closing (tally-at b n) (candidates s (state b n .roots)) (events s (state b n .roots))) e))
 
-pub record Ended (r c w p t l : ℕ) : Type 0 where
-  pub roots : c ≡ r
-  pub patterns : w ≡ 0
-  pub picks : p ≡ 0
-  pub total : t ≤ most-candidates
+pub record Ended (t : Tally) (n l : ℕ) : Type 0 where
+  pub roots : t .closed ≡ t .roots
+  pub patterns : t .patterns ≡ 0
+  pub picks : t .picks ≡ 0
+  pub total : n ≤ most-candidates
   pub sum : l ≤ most-events
 
-pub ended : (r c w p t l : ℕ) → closing r c w p t l ≡ None → Ended r c w p t l
-ended r c w p t l e = go (eqb c r && (eqb w 0 && eqb p 0)) refl (leb t most-candidates) refl (leb l most-events) refl e
+pub ended : (t : Tally) (n l : ℕ) → closing t n l ≡ None → Ended t n l
+ended t n l e = go (eqb (t .closed) (t .roots) && (eqb (t .patterns) 0 && eqb (t .picks) 0)) refl (leb n most-candidates) refl (leb l most-events) refl e
   where
-    go : (x : Bool) → (eqb c r && (eqb w 0 && eqb p 0)) ≡ x → (y : Bool) → leb t most-candidates ≡ y → (z : Bool) → leb l most-events ≡ z
-        → _≡_ {A = Option Question} (cond x (cond y (cond z None (Some Events)) (Some Total)) (Some Whole)) None → Ended r c w p t l
+    go : (x : Bool) → (eqb (t .closed) (t .roots) && (eqb (t .patterns) 0 && eqb (t .picks) 0)) ≡ x → (y : Bool) → leb n most-candidates ≡ y → (z : Bool) → leb l most-events ≡ z
+        → _≡_ {A = Option Question} (cond x (cond y (cond z None (Some Events)) (Some Total)) (Some Whole)) None → Ended t n l
     go true ex true ey true ez h =
-        let u = and-parts (eqb c r) (eqb w 0 && eqb p 0) ex in
-        let v = and-parts (eqb w 0) (eqb p 0) (u .1) in
-        record { roots = eqb-true c r (u .0); patterns = eqb-true w 0 (v .0); picks = eqb-true p 0 (v .1); total = leb-true t most-candidates ey; sum = leb-true l most-events ez }
+        let u = and-parts (eqb (t .closed) (t .roots)) (eqb (t .patterns) 0 && eqb (t .picks) 0) ex in
+        let v = and-parts (eqb (t .patterns) 0) (eqb (t .picks) 0) (u .1) in
+        record {
+          roots = eqb-true (t .closed) (t .roots) (u .0);
+          patterns = eqb-true (t .patterns) 0 (v .0);
+          picks = eqb-true (t .picks) 0 (v .1);
+          total = leb-true n most-candidates ey;
+          sum = leb-true l most-events ez;
+        }
     go true ex true ey false ez h = let z : _≡_ {A = ℕ} 0 1 = cc in absurd (omega arith)
     go true ex false ey w ez h = let z : _≡_ {A = ℕ} 0 1 = cc in absurd (omega arith)
     go false ex y ey w ez h = let z : _≡_ {A = ℕ} 0 1 = cc in absurd (omega arith)

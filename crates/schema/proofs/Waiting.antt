@@ -5,12 +5,12 @@ use mathlib.Core.List.{List, [], _∷_}
 use native.Mathlib.Omega.{arith}
 use lib.ListN.{length}
 use Rattle.grammar.specs.Pattern.{Pattern, nothing, atom, event, both, either, repeat, size}
-use Rattle.schema.specs.Items.{item-count, item-at}
+use Rattle.schema.specs.Bytes.{item-count, item-at}
 use Rattle.schema.specs.Reading.{stacked, state, top, made, pattern-at}
 use Rattle.schema.specs.Questions.{made-at}
 use Rattle.schema.specs.Progress.{Sized, Ends}
-use Rattle.schema.specs.declared.item.Item.{Item}
-use Rattle.schema.specs.declared.item.Item.the-variants.{Nothing, Atom, Event, Both, Either, Repeat, Root, Pick, Relate, AtMost, Unknown}
+use Rattle.items.specs.declared.item.Item.{Item}
+use Rattle.items.specs.declared.item.Item.the-variants.{Nothing, Atom, Event, Both, Either, Repeat, Root, Pick, Relate, AtMost, Unknown}
 
 -- the patterns that wait once i items were read
 abbrev pub waiting : List ℕ → ℕ → List Pattern

@@ -1,4 +1,4 @@
-pub mod Items
+pub mod Bytes
 pub mod Reading
 pub mod Plans
 pub mod Questions

@@ -8,8 +8,8 @@ use Rattle.grammar.specs.Pattern.{Pattern, size}
 use Rattle.grammar.specs.Schema.{Rooted, candidates, events}
 use Rattle.grammar.specs.Measures.{measure-of, count-capped}
 use Rattle.grammar.specs.declared.measure.Measure.{Measure}
-use Rattle.schema.specs.Items.{item-count, root-count}
-use Rattle.schema.specs.Reading.{state, pattern-at, earlier, later}
+use Rattle.schema.specs.Bytes.{item-count, root-count}
+use Rattle.schema.specs.Reading.{state, tally-at, pattern-at, earlier, later}
 use Rattle.schema.specs.Plans.{plan-of}
 use Rattle.schema.specs.declared.known.Known.{Known}
 use Rattle.schema.specs.declared.progress.Progress.{Progress}
@@ -45,10 +45,7 @@ root-items (r ∷ rs) = size (r .pattern) + 1 + root-items rs
 
 -- the counts after i items
 pub record Counted (b : List ℕ) (i : ℕ) (g : Progress) : Type 0 where
-  pub stated : g .roots ≡ root-count b
-  pub patterns : g .waiting ≡ length (state b i .patterns)
-  pub closed : g .closed ≡ length (state b i .roots)
-  pub picks : g .picks ≡ length (state b i .picks)
+  pub tally : g .tally ≡ tally-at b i
   pub earlier : g .earlier ≡ earlier (state b i .picks)
   pub later : g .later ≡ later (state b i .picks)
   pub total : g .total ≡ count-capped (candidates (g .scope) (state b i .roots))

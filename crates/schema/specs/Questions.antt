@@ -1,18 +1,22 @@
 -- The questions of a table, in order, and what a check answers. Assumes nothing.
-use Prim.Native.Nat.{ℕ, zero, suc, _+_, _*_, _/_, _%_}
+use Prim.Native.Nat.{ℕ, zero, suc, _+_, _*_}
 use mathlib.Core.List.{List}
-use mathlib.Core.Bool.{Bool, true, false, cond, not, _&&_, _||_}
-use lib.Dec.{eqb, leb, ltb}
+use mathlib.Core.Bool.{Bool, true, false, cond, not, _&&_}
+use lib.Dec.{eqb, leb}
 use lib.ListN.{length}
-use Rattle.questions.specs.Limits.{most-items, most-roots, most-scope, most-type, most-times, scope-mark, most-candidates, most-events, no-item}
+use Rattle.questions.specs.Limits.{most-items, most-roots, most-scope, no-item}
 use Rattle.questions.specs.declared.question.Question.{Question}
-use Rattle.questions.specs.declared.question.Question.the-variants.{Bytes, Sizes, Scope, Kind, Argument, Takes, Sharing, Count, Length, Whole, Total, Events}
+use Rattle.questions.specs.declared.question.Question.the-variants.{Bytes, Sizes, Scope, Sharing}
 use Rattle.questions.specs.declared.refusal.Refusal.{Refusal}
-use Rattle.grammar.specs.Pattern.{Pattern, count, len, most}
+use Rattle.grammar.specs.Pattern.{Pattern, count, len}
 use Rattle.grammar.specs.Schema.{candidates, events}
+use Rattle.grammar.specs.declared.part.Relation.the-variants.{Share, Coordinate, AsMany, NoMore, FewerBefore}
 use Rattle.grammar.specs.declared.part.Selection.{Selection}
-use Rattle.schema.specs.Items.{item-count, root-count, kind-at, argument-at, item-at}
-use Rattle.schema.specs.Reading.{state, earlier, later, made, schema-of}
+use Rattle.items.specs.Asked.{asked, sized, closing}
+use Rattle.items.specs.declared.item.Item.{Item}
+use Rattle.items.specs.declared.item.Item.the-variants.{Nothing, Atom, Event, Both, Either, Repeat, Root, Pick, Relate, AtMost, Unknown}
+use Rattle.schema.specs.Bytes.{item-count, root-count, argument-at, item-at}
+use Rattle.schema.specs.Reading.{state, tally-at, earlier, later, made, schema-of}
 use Rattle.schema.specs.Plans.{plan-of}
 use Rattle.schema.specs.declared.plan.Plan.{Plan}
 use Rattle.std.specs.declared.option.Option.{Option}
@@ -31,68 +35,55 @@ sizes-fit b = (leb 1 (item-count b) && leb (item-count b) most-items) && (leb 1 
 abbrev pub opening : List ℕ → ℕ → Option Question
 opening b s = cond (bytes-fit b) (cond (sizes-fit b) (cond (leb 1 s && leb s most-scope) None (Some Scope)) (Some Sizes)) (Some Bytes)
 
--- Questions 4 to 6, of an item's kind k and argument a at scope s, where c of r roots are closed, w patterns wait and p picks.
+-- Question 7, of an item on the picks x and y.
 
--- the low byte is the least count of a repetition, the high byte the most
-unfoldable pub counts-suit : ℕ → ℕ → Bool
-counts-suit s a = leb (a % 256) most-times && ((leb (a / 256) most-times || eqb (a / 256) scope-mark) && leb (a % 256) (most s (a / 256)))
-
-unfoldable pub pick-suits : ℕ → ℕ → Bool
-pick-suits r a = ltb (a / 256) r && leb (a % 256) most-type
-
-abbrev pub suits : ℕ → ℕ → ℕ → ℕ → Bool
-suits s r k a =
-    cond (eqb k 1 || (eqb k 2 || eqb k 8)) (leb a most-type)
-    (cond (eqb k 6 || eqb k 7) (counts-suit s a)
-    (cond (eqb k 9) (pick-suits r a)
-    (cond (eqb k 14) (leb a most-events)
-    (eqb a 0))))
-
-abbrev pub finds : ℕ → ℕ → ℕ → ℕ → ℕ → Bool
-finds r c w p k =
-    cond (leb k 8)
-    (ltb c r && cond (eqb k 0 || eqb k 1) true (cond (leb 3 k && leb k 5) (leb 2 w) (cond (eqb k 8) (eqb w 1) (leb 1 w))))
-    (eqb c r && cond (eqb k 9) (leb p 1) (cond (eqb k 14) (eqb p 1) (eqb p 2)))
-
-abbrev pub asked : ℕ → ℕ → ℕ → ℕ → ℕ → ℕ → ℕ → Option Question
-asked s r c w p k a =
-    cond (leb k 15) (cond (suits s r k a) (cond (finds r c w p k) None (Some Takes)) (Some Argument)) (Some Kind)
-
--- Question 7, of an item of kind k on the picks x and y.
-
--- is the item of kind k and argument a an event with an inside, or a root, of type t?
-abbrev pub encloses : ℕ → ℕ → ℕ → Bool
-encloses k a t = (eqb k 2 || eqb k 8) && eqb a t
+-- is the item an event with an inside, or a root, of type t?
+abbrev pub encloses : Item → ℕ → Bool
+encloses Nothing t = false
+encloses (Atom u) t = false
+encloses (Event u) t = eqb u t
+encloses (Both o) t = false
+encloses Either t = false
+encloses (Repeat o x y) t = false
+encloses (Root u) t = eqb u t
+encloses (Pick x) t = false
+encloses (Relate o) t = false
+encloses (AtMost n) t = false
+encloses Unknown t = false
 
 -- is there one among the first n items?
 abbrev pub enclosed : List ℕ → ℕ → ℕ → Bool
 enclosed b t zero = false
-enclosed b t (suc n) = cond (encloses (kind-at b n) (argument-at b n) t) true (enclosed b t n)
+enclosed b t (suc n) = cond (encloses (item-at b n) t) true (enclosed b t n)
 
+-- one type in two roots, which no item of the table encloses
 abbrev pub shares : List ℕ → Selection → Selection → Bool
 shares b x y = eqb (x .event) (y .event) && (not (eqb (x .root) (y .root)) && not (enclosed b (x .event) (item-count b)))
 
-abbrev pub shared : List ℕ → ℕ → Selection → Selection → Option Question
-shared b k x y = cond (eqb k 10) (cond (shares b x y) None (Some Sharing)) None
+abbrev pub shared : List ℕ → Item → Selection → Selection → Option Question
+shared b Nothing x y = None
+shared b (Atom t) x y = None
+shared b (Event t) x y = None
+shared b (Both o) x y = None
+shared b Either x y = None
+shared b (Repeat o l m) x y = None
+shared b (Root t) x y = None
+shared b (Pick z) x y = None
+shared b (Relate Share) x y = cond (shares b x y) None (Some Sharing)
+shared b (Relate Coordinate) x y = None
+shared b (Relate AsMany) x y = None
+shared b (Relate NoMore) x y = None
+shared b (Relate FewerBefore) x y = None
+shared b (AtMost n) x y = None
+shared b Unknown x y = None
 
--- Questions 8 and 9, of a count and a length.
-
-abbrev pub sized : ℕ → ℕ → Option Question
-sized n l = cond (leb n most-candidates) (cond (leb l most-events) None (Some Length)) (Some Count)
-
--- Questions 10 to 12, where c of r roots are closed, w patterns wait and p picks, the total is t and the sum of lengths l.
-
-abbrev pub closing : ℕ → ℕ → ℕ → ℕ → ℕ → ℕ → Option Question
-closing r c w p t l =
-    cond (eqb c r && (eqb w 0 && eqb p 0)) (cond (leb t most-candidates) (cond (leb l most-events) None (Some Events)) (Some Total)) (Some Whole)
-
--- The same of the items of a table, by what was read before them.
+-- Questions 4 to 12 of the items of a table, by what was read before them.
 
 unfoldable pub asked-at : List ℕ → ℕ → ℕ → Option Question
-asked-at b s i = asked s (root-count b) (length (state b i .roots)) (length (state b i .patterns)) (length (state b i .picks)) (kind-at b i) (argument-at b i)
+asked-at b s i = asked s (tally-at b i) (item-at b i) (argument-at b i)
 
 unfoldable pub shared-at : List ℕ → ℕ → Option Question
-shared-at b i = shared b (kind-at b i) (earlier (state b i .picks)) (later (state b i .picks))
+shared-at b i = shared b (item-at b i) (earlier (state b i .picks)) (later (state b i .picks))
 
 -- what item i makes
 unfoldable pub made-at : List ℕ → ℕ → Pattern
@@ -110,9 +101,7 @@ unfoldable pub asks : List ℕ → ℕ → ℕ → Option Question
 asks b s i = first-no (asked-at b s i) (first-no (shared-at b i) (sized-at b s i))
 
 unfoldable pub closing-at : List ℕ → ℕ → Option Question
-closing-at b s =
-    closing (root-count b) (length (state b (item-count b) .roots)) (length (state b (item-count b) .patterns)) (length (state b (item-count b) .picks))
-    (candidates s (state b (item-count b) .roots)) (events s (state b (item-count b) .roots))
+closing-at b s = closing (tally-at b (item-count b)) (candidates s (schema-of b .roots)) (events s (schema-of b .roots))
 
 -- The answer: the total, or the first no with its item.
 

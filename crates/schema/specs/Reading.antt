@@ -1,13 +1,14 @@
 -- How the items of a table read, one after another, to a schema. Assumes nothing.
 use Prim.Native.Nat.{ℕ, zero, suc}
 use mathlib.Core.List.{List, [], _∷_, _++_}
-use lib.ListN.{getD}
+use lib.ListN.{length, getD}
 use Rattle.grammar.specs.Pattern.{Pattern, nothing, atom, event, both, either, repeat}
 use Rattle.grammar.specs.Schema.{Rooted, Operation, relate, at-most, Schema}
 use Rattle.grammar.specs.declared.part.Selection.{Selection}
-use Rattle.schema.specs.Items.{item-count, item-at}
-use Rattle.schema.specs.declared.item.Item.{Item}
-use Rattle.schema.specs.declared.item.Item.the-variants.{Nothing, Atom, Event, Both, Either, Repeat, Root, Pick, Relate, AtMost, Unknown}
+use Rattle.schema.specs.Bytes.{item-count, root-count, item-at}
+use Rattle.items.specs.declared.ask.Tally.{Tally}
+use Rattle.items.specs.declared.item.Item.{Item}
+use Rattle.items.specs.declared.item.Item.the-variants.{Nothing, Atom, Event, Both, Either, Repeat, Root, Pick, Relate, AtMost, Unknown}
 
 -- what was read so far: the patterns and the picks that wait, the latest first, and the roots and operations, in order
 pub record State : Type 0 where
@@ -105,6 +106,10 @@ step it S = record {
 abbrev pub state : List ℕ → ℕ → State
 state b zero = start
 state b (suc i) = step (item-at b i) (state b i)
+
+-- how many roots the table states, how many are closed by then, and how many patterns and picks wait
+abbrev pub tally-at : List ℕ → ℕ → Tally
+tally-at b i = record { roots = root-count b; closed = length (state b i .roots); patterns = length (state b i .patterns); picks = length (state b i .picks) }
 
 -- the pattern that item i ends
 abbrev pub pattern-at : List ℕ → ℕ → Pattern

@@ -4,9 +4,9 @@ use mathlib.Core.List.{List, [], _∷_, _++_}
 use lib.ListN.{length}
 use Rattle.grammar.specs.Pattern.{Pattern, nothing, atom, event, both, either, repeat}
 use Rattle.grammar.specs.Schema.{Rooted, Operation, relate, at-most, Schema}
-use Rattle.schema.specs.Items.{kind-of, argument-of}
-use Rattle.schema.specs.declared.item.Item.{Item}
-use Rattle.schema.specs.declared.item.Item.the-variants.{Nothing, Atom, Event, Both, Either, Repeat, Root, Pick, Relate, AtMost, Unknown}
+use Rattle.items.specs.Items.{kind-of, argument-of}
+use Rattle.items.specs.declared.item.Item.{Item}
+use Rattle.items.specs.declared.item.Item.the-variants.{Nothing, Atom, Event, Both, Either, Repeat, Root, Pick, Relate, AtMost, Unknown}
 
 abbrev pub written : Pattern → List Item
 written nothing = Nothing ∷ []

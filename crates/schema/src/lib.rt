@@ -4,7 +4,6 @@
 //! when it is the writing of a schema within the limits, and that schema is the only one.
 
 mod ask;
-mod item;
 mod known;
 pub mod plan;
 mod progress;

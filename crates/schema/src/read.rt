@@ -4,17 +4,15 @@ ghost use mathlib.Core.Path.{_≡_};
 ghost use Prim.Native.Nat.{_+_, _*_, _<_, _≤_};
 ghost use lib.ListN.{length};
 ghost use Rattle.grammar.specs.Measures.{measure-of};
-ghost use Rattle.schema.specs.Items.{word, item-count, argument-at, item-of, item-at};
+ghost use Rattle.schema.specs.Bytes.{word, item-count, argument-at, item-at};
 ghost use Rattle.schema.specs.Reading.{pattern-at};
 ghost use Rattle.schema.specs.Questions.{encloses, enclosed};
 ghost use Rattle.schema.specs.Progress.{Ends, Knows};
-use crate::item::Item;
 use crate::known::Known;
 use grammar::Measure;
-use grammar::Order;
-use grammar::Relation;
-use grammar::Selection;
 use grammar::measure::most_of;
+use items::Item;
+use items::item_of;
 
 /// 16 bits at place `i`, low byte first.
 pub(crate) fn word_at(table: &[u8], i: usize) -> u16
@@ -32,35 +30,6 @@ pub(crate) fn argument_at(table: &[u8], i: usize) -> u16
     word_at(table, 4 + n + 2 * i)
 }
 
-fn item_of(kind: u8, argument: u16) -> Item
-    ensures { λ r. ⌜ r ≡ item-of kind argument ⌝ }
-{
-    let low = (argument % 256) as u8;
-    let high = (argument / 256) as u8;
-    match kind {
-        0 => Item::Nothing,
-        1 => Item::Atom(argument),
-        2 => Item::Event(argument),
-        3 => Item::Both(Order::InOrder),
-        4 => Item::Both(Order::AsSet),
-        5 => Item::Either,
-        6 => Item::Repeat(Order::InOrder, low, high),
-        7 => Item::Repeat(Order::AsSet, low, high),
-        8 => Item::Root(argument),
-        9 => Item::Pick(Selection {
-            root: high,
-            event: low,
-        }),
-        10 => Item::Relate(Relation::Share),
-        11 => Item::Relate(Relation::Coordinate),
-        12 => Item::Relate(Relation::AsMany),
-        13 => Item::Relate(Relation::NoMore),
-        14 => Item::AtMost(argument),
-        15 => Item::Relate(Relation::FewerBefore),
-        _ => Item::Unknown,
-    }
-}
-
 pub(crate) fn item_at(table: &[u8], i: usize) -> Item
     requires { ⌜ 4 + 3 * item-count (now table) ≤ length (now table) ⌝ ∗ ⌜ i < item-count (now table) ⌝ }
     ensures { λ r. ⌜ r ≡ item-at (now (table .entry)) i ⌝ }
@@ -69,10 +38,13 @@ pub(crate) fn item_at(table: &[u8], i: usize) -> Item
 }
 
 /// Is this an event with an inside, or a root, of type `event`?
-fn encloses(kind: u8, argument: u16, event: u16) -> bool
-    ensures { λ r. ⌜ r ≡ encloses kind argument event ⌝ }
+fn encloses(item: Item, event: u16) -> bool
+    ensures { λ r. ⌜ r ≡ encloses item event ⌝ }
 {
-    (kind == 2 || kind == 8) && argument == event
+    match item {
+        Item::Event(t) | Item::Root(t) => t == event,
+        _ => false,
+    }
 }
 
 /// Is there one among the first `n` items?
@@ -82,7 +54,7 @@ pub(crate) fn enclosed(table: &[u8], event: u16, n: usize) -> bool
 {
     let mut found = false;
     for i in 0..n {
-        if encloses(table[4 + i], argument_at(table, i), event) {
+        if encloses(item_at(table, i), event) {
             found = true;
         }
     }

@@ -6,12 +6,10 @@ ghost use mathlib.Core.List.{List};
 ghost use Rattle.questions.specs.Limits.{most-candidates, most-events};
 ghost use Rattle.std.specs.declared.option.Option.the-variants.{None};
 ghost use Rattle.grammar.specs.Measures.{measure-of};
-ghost use Rattle.schema.specs.Items.{item-count, root-count};
+ghost use Rattle.schema.specs.Bytes.{item-count, root-count};
 ghost use Rattle.schema.specs.Questions.{asked-at, made-at, asks};
 ghost use Rattle.schema.specs.Progress.{Sized, Knows, Counted, Holds};
-use crate::ask::ask_measure;
 use crate::ask::ask_sharing;
-use crate::item::Item;
 use crate::known::Known;
 use crate::plan::Plan;
 use crate::plan::Root;
@@ -22,6 +20,10 @@ use crate::read::measure_of;
 use grammar::Measure;
 use grammar::Selection;
 use grammar::measure::product_capped;
+use items::Item;
+use items::Tally;
+use items::ask_item;
+use items::ask_measure;
 use questions::Question;
 
 impl Progress {
@@ -32,10 +34,12 @@ impl Progress {
         let none = Selection { root: 0, event: 0 };
         Progress {
             scope,
-            roots,
-            waiting: 0,
-            closed: 0,
-            picks: 0,
+            tally: Tally {
+                roots,
+                closed: 0,
+                patterns: 0,
+                picks: 0,
+            },
             earlier: none,
             later: none,
             total: 1,
@@ -72,9 +76,9 @@ impl Progress {
         ensures known { λ _. ⌜ now (self .exit) .known ≡ now (self .entry) .known ⌝ }
     {
         match item_at(table, i) {
-            Item::Nothing | Item::Atom(_) => self.waiting += 1,
+            Item::Nothing | Item::Atom(_) => self.tally.patterns += 1,
             Item::Event(_) | Item::Repeat(_, _, _) => {}
-            Item::Both(_) | Item::Either => self.waiting -= 1,
+            Item::Both(_) | Item::Either => self.tally.patterns -= 1,
             Item::Root(event) => {
                 let root = Root {
                     event: event as u8,
@@ -82,21 +86,21 @@ impl Progress {
                     count: m.count,
                     length: m.length,
                 };
-                self.plan.close(self.closed, root);
-                self.closed += 1;
+                self.plan.close(self.tally.closed, root);
+                self.tally.closed += 1;
                 self.total = product_capped(self.total, m.count);
                 self.length += u32::from(m.length);
-                self.waiting = 0;
+                self.tally.patterns = 0;
             }
             Item::Pick(x) => {
                 self.earlier = self.later;
                 self.later = x;
-                self.picks += 1;
+                self.tally.picks += 1;
             }
             Item::Relate(_) | Item::AtMost(_) => {
                 self.earlier = Selection { root: 0, event: 0 };
                 self.later = Selection { root: 0, event: 0 };
-                self.picks = 0;
+                self.tally.picks = 0;
             }
             Item::Unknown => {}
         }
@@ -111,12 +115,11 @@ impl Progress {
         ensures scope { λ r. ⌜ (r ≡ None → now (self .exit) .scope ≡ now (self .entry) .scope) ⌝ }
         ensures goes { λ r. ⌜ (r ≡ None → Holds (now (table .entry)) (suc i) (now (self .exit))) ⌝ }
     {
-        let kind = table[4 + i];
-        let argument = argument_at(table, i);
-        if let Some(q) = self.ask(kind, argument) {
+        let item = item_at(table, i);
+        if let Some(q) = ask_item(self.scope, self.tally, item, argument_at(table, i)) {
             return Some(q);
         }
-        if let Some(q) = ask_sharing(table, kind, self.earlier, self.later) {
+        if let Some(q) = ask_sharing(table, item, self.earlier, self.later) {
             return Some(q);
         }
         let m = self.measure_made(table, i);

@@ -7,6 +7,7 @@ use crate::ask::ask_opening;
 use crate::plan::Plan;
 use crate::progress::Progress;
 use crate::read::word_at;
+use items::ask_whole;
 use questions::Refusal;
 use questions::limits::NO_ITEM;
 
@@ -34,7 +35,7 @@ pub fn check(table: &[u8], scope: u8, plan: &mut Plan) -> Result<u32, Refusal>
             });
         }
     }
-    if let Some(question) = progress.ask_closing() {
+    if let Some(question) = ask_whole(progress.tally, progress.total, progress.length) {
         return Err(Refusal {
             question,
             item: NO_ITEM,

@@ -7,10 +7,10 @@ use Rattle.grammar.specs.Measures.{measure-of, inside-measure, both-measure, ei
 use Rattle.grammar.specs.declared.measure.Measure.{Measure}
 use Rattle.grammar.specs.declared.part.Order.{Order}
 use Rattle.grammar.proofs.Measures.{inside-measures, both-measures, either-measures, repeat-measures}
-use Rattle.schema.specs.Items.{item-at}
+use Rattle.schema.specs.Bytes.{item-at}
 use Rattle.schema.specs.Reading.{pattern-at}
 use Rattle.schema.specs.Progress.{Ends}
-use Rattle.schema.specs.declared.item.Item.the-variants.{Event, Both, Either, Repeat}
+use Rattle.items.specs.declared.item.Item.the-variants.{Event, Both, Either, Repeat}
 use Rattle.schema.proofs.Waiting.{One, Two, unary, binary}
 use Rattle.schema.proofs.read.+measure_of.Needs as need
 

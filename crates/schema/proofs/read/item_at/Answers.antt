@@ -1,5 +1,5 @@
 use borrow.Author.Needs.{needs}
-use Rattle.schema.specs.Items.{item-at}
+use Rattle.schema.specs.Bytes.{item-at}
 use Rattle.schema.proofs.read.item_at.Needs as need
 
 pub returns : need.returns

@@ -9,7 +9,7 @@ use native.Mathlib.Numerals.{add-one}
 use Rattle.std.specs.declared.result.Result.the-variants.{Ok}
 use Rattle.questions.specs.Limits.{no-item}
 use Rattle.grammar.specs.Schema.{candidates}
-use Rattle.schema.specs.Items.{item-count}
+use Rattle.schema.specs.Bytes.{item-count}
 use Rattle.schema.specs.Reading.{state, schema-of}
 use Rattle.schema.specs.Plans.{plan-of}
 use Rattle.schema.specs.Questions.{asks, closing-at, answered, from, verdict}
@@ -67,12 +67,12 @@ loop-i-again c =
       c .loop-i .inv .2 ∙ from-more (c .args .table .now) (c .args .scope) (c .loop-i .i) (item-count (c .args .table .now)) lt a,
     )
 
-pub returns-in-Some-ask-closing : need.returns-in-Some-ask-closing
-returns-in-Some-ask-closing c =
+pub returns-in-Some-ask-whole : need.returns-in-Some-ask-whole
+returns-in-Some-ask-whole c =
     let b = c .args .table .now in
     let e : c .loop-i .i ≡ item-count b = omega (arith, c .loop-i-test .left, c .loop-i .kept .i-end, c .from-n .ensures, c .word-at .ensures) in
-    let k : closing-at b (c .args .scope) ≡ Some (c .in-Some-ask-closing .question) =
-    ap (closing-at b) (sym (c .loop-i .inv .1)) ∙ (sym (closing-is (c .args .table .now) (c .loop-i .i) (c .loop-i .progress) (c .loop-i .inv .0 .counted) e) ∙ (sym (c .ask-closing .ensures) ∙ c .in-Some-ask-closing .is)) in
+    let k : closing-at b (c .args .scope) ≡ Some (c .in-Some-ask-whole .question) =
+    ap (closing-at b) (sym (c .loop-i .inv .1)) ∙ (sym (closing-is (c .args .table .now) (c .loop-i .i) (c .loop-i .progress) (c .loop-i .inv .0 .counted) e) ∙ (sym (c .ask-whole .ensures) ∙ c .in-Some-ask-whole .is)) in
     let v = c .loop-i .inv .2 ∙ (from-last (c .args .table .now) (c .args .scope) (c .loop-i .i) e ∙ ap (λ o. answered o no-item (Ok (candidates (c .args .scope) (schema-of b .roots)))) k) in
     let p = planned-no (c .args .table .now) (c .args .scope) (c .args .plan .now) _ v in
     record { answer = sym v; plan = p; schema = tables-are-schemas (c .args .table .now) (c .args .scope) (bytes (c .args .table .now) (c .typed .table)) _ (sym v) (c .args .plan .now) _ p }
@@ -84,11 +84,11 @@ returns c =
     let g = c .loop-i .progress in
     let h = c .loop-i .inv .0 .counted in
     let e : c .loop-i .i ≡ item-count b = omega (arith, c .loop-i-test .left, c .loop-i .kept .i-end, c .from-n .ensures, c .word-at .ensures) in
-    let n = sym (c .ask-closing .ensures) ∙ c .in-rest-ask-closing .is in
+    let n = sym (c .ask-whole .ensures) ∙ c .in-rest-ask-whole .is in
     let k : closing-at b s ≡ None = ap (closing-at b) (sym (c .loop-i .inv .1)) ∙ (sym (closing-is (c .args .table .now) (c .loop-i .i) (c .loop-i .progress) (c .loop-i .inv .0 .counted) e) ∙ n) in
     let v : verdict b s ≡ Ok (candidates s (schema-of b .roots)) =
     c .loop-i .inv .2 ∙ (from-last (c .args .table .now) (c .args .scope) (c .loop-i .i) e ∙ ap (λ o. answered o no-item (Ok (candidates s (schema-of b .roots)))) k) in
-    let d = ended (g .roots) (g .closed) (g .waiting) (g .picks) (g .total) (g .length) n in
+    let d = ended (g .tally) (g .total) (g .length) n in
     let t : g .total ≡ candidates (g .scope) (state b (c .loop-i .i) .roots) = omega (arith, d .total, h .total) in
     let t2 : g .total ≡ candidates s (schema-of b .roots) = t ∙ ap₂ (λ x j. candidates x (state b j .roots)) (c .loop-i .inv .1) e in
     let p : g .plan ≡ plan-of s (schema-of b .roots) = h .plan ∙ ap₂ (λ x j. plan-of x (state b j .roots)) (c .loop-i .inv .1) e in

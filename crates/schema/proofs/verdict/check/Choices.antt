@@ -1,6 +1,6 @@
 use Prim.Native.Nat.{_-_}
 use mathlib.Core.Path.{_≡_}
-use Rattle.schema.specs.Items.{item-count}
+use Rattle.schema.specs.Bytes.{item-count}
 use Rattle.schema.specs.Questions.{verdict, from}
 use Rattle.schema.specs.Progress.{Holds}
 use Rattle.schema.proofs.verdict.check.Given as given

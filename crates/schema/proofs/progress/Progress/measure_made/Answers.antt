@@ -9,27 +9,26 @@ use Rattle.grammar.specs.Measures.{measure-of, inside-measure}
 use Rattle.grammar.specs.declared.part.Relation.{Relation}
 use Rattle.grammar.specs.declared.part.Selection.{Selection}
 use Rattle.grammar.proofs.Measures.{inside-measures}
-use Rattle.schema.specs.Items.{item-count, root-count, item-at}
+use Rattle.schema.specs.Bytes.{item-count, root-count, item-at}
 use Rattle.schema.specs.Reading.{state, top, stacked, made, pattern-at}
 use Rattle.schema.specs.Questions.{asked-at, made-at}
 use Rattle.schema.specs.Progress.{Sized, Ends}
 use Rattle.std.specs.declared.option.Option.the-variants.{None}
-use Rattle.schema.specs.declared.item.Item.{Item}
-use Rattle.schema.specs.declared.item.Item.the-variants.{Nothing, Atom, Event, Both, Either, Repeat, Root, Pick, Relate, AtMost, Unknown}
-use Rattle.schema.proofs.Passing.{passed-at}
-use Rattle.schema.proofs.Steps.{Builds, built}
+use Rattle.items.specs.declared.item.Item.{Item}
+use Rattle.items.specs.declared.item.Item.the-variants.{Nothing, Atom, Event, Both, Either, Repeat, Root, Pick, Relate, AtMost, Unknown}
+use Rattle.schema.proofs.Steps.{found-at, Builds, built}
 use Rattle.schema.proofs.Waiting.{made-ends, last-ends}
 use Rattle.schema.proofs.progress.Progress.measure_made.Needs as need
 
 -- the pattern that a root takes ends right before it
 before : (b : List ℕ) (s i t : ℕ) → asked-at b s i ≡ None → Root t ≡ item-at b i → Sized b → i < item-count b → (0 < i) × Ends b (i - 1) × (pattern-at b (i - 1) ≡ top (state b i .patterns))
-before b s i t pa is z lt = last-ends b i z lt (omega (arith, passed-at b s i (Root t) pa is .found .1))
+before b s i t pa is z lt = last-ends b i z lt (omega (arith, found-at b s i (Root t) pa is .1))
 
 -- an item that is none of these ends a pattern
 pattern-ends : (b : List ℕ) (s i : ℕ) (it : Item) → asked-at b s i ≡ None → it ≡ item-at b i → Sized b → i < item-count b
     → ((t : ℕ) → it ≡ Root t → ⊥) → ((x : Selection) → it ≡ Pick x → ⊥) → ((r : Relation) → it ≡ Relate r → ⊥) → ((n : ℕ) → it ≡ AtMost n → ⊥) → (it ≡ Unknown → ⊥) → Ends b i
 pattern-ends b s i it pa is z lt a k r m o =
-    record { sized = z; within = lt; waits = rw (sym is) (built it (state b i .patterns) (root-count b) (length (state b i .roots)) (length (state b i .picks)) (go it a k r m o) (passed-at b s i it pa is .found) .some) }
+    record { sized = z; within = lt; waits = rw (sym is) (built it (state b i .patterns) (root-count b) (length (state b i .roots)) (length (state b i .picks)) (go it a k r m o) (found-at b s i it pa is) .some) }
   where
     go : (it : Item) → ((t : ℕ) → it ≡ Root t → ⊥) → ((x : Selection) → it ≡ Pick x → ⊥) → ((r : Relation) → it ≡ Relate r → ⊥) → ((n : ℕ) → it ≡ AtMost n → ⊥) → (it ≡ Unknown → ⊥) → Builds it
     go Nothing a k r m o = tt

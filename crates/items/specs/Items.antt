@@ -1,30 +1,12 @@
--- The items of a table: what a kind and an argument say, and where they stand among the bytes. Assumes nothing.
+-- The items of a table: what a kind and an argument say, and what kind and argument write an item. Assumes nothing.
 use Prim.Native.Nat.{ℕ, _+_, _*_, _/_, _%_}
-use mathlib.Core.List.{List}
 use mathlib.Core.Bool.{cond}
 use lib.Dec.{eqb}
-use lib.ListN.{getD}
 use Rattle.grammar.specs.declared.part.Order.the-variants.{InOrder, AsSet}
 use Rattle.grammar.specs.declared.part.Relation.the-variants.{Share, Coordinate, AsMany, NoMore, FewerBefore}
 use Rattle.grammar.specs.declared.part.Selection.{Selection}
-use Rattle.schema.specs.declared.item.Item.{Item}
-use Rattle.schema.specs.declared.item.Item.the-variants.{Nothing, Atom, Event, Both, Either, Repeat, Root, Pick, Relate, AtMost, Unknown}
-
--- 16 bits at place i, low byte first
-abbrev pub word : List ℕ → ℕ → ℕ
-word b i = getD b i 0 + 256 * getD b (i + 1) 0
-
-abbrev pub item-count : List ℕ → ℕ
-item-count b = word b 0
-
-abbrev pub root-count : List ℕ → ℕ
-root-count b = word b 2
-
-abbrev pub kind-at : List ℕ → ℕ → ℕ
-kind-at b i = getD b (4 + i) 0
-
-abbrev pub argument-at : List ℕ → ℕ → ℕ
-argument-at b i = word b (4 + item-count b + 2 * i)
+use Rattle.items.specs.declared.item.Item.{Item}
+use Rattle.items.specs.declared.item.Item.the-variants.{Nothing, Atom, Event, Both, Either, Repeat, Root, Pick, Relate, AtMost, Unknown}
 
 -- a pick's argument is 256 x root + type
 abbrev pub selection : ℕ → Selection
@@ -70,7 +52,3 @@ argument-of (Pick x) = 256 * x .root + x .event
 argument-of (Relate r) = 0
 argument-of (AtMost n) = n
 argument-of Unknown = 0
-
--- item i of the table
-unfoldable pub item-at : List ℕ → ℕ → Item
-item-at b i = item-of (kind-at b i) (argument-at b i)
