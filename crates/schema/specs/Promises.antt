@@ -15,8 +15,8 @@ use Rattle.std.specs.declared.result.Result.the-variants.{Ok, Err}
 abbrev pub Writes : ℕ → Schema → List ℕ → Type 0
 Writes s x b = Within s x × (b ≡ writing x)
 
--- a check of b at scope s answered r and left the plan p: b is the table of one schema within the limits, the total and the plan are
--- those of its roots, and no other schema has this table
+-- a check of b at scope s answered the total t and left the plan p: b is the table of a schema within the limits, total and plan are those of
+-- its roots, and no other schema within the limits has this table
 pub record Accepted (b : List ℕ) (s t : ℕ) (p : Plan) : Type 0 where
   pub schema : Schema
   pub writes : Writes s schema b

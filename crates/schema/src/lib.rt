@@ -8,7 +8,6 @@ mod known;
 pub mod plan;
 mod progress;
 mod read;
-mod take;
 mod verdict;
 
 pub use plan::Plan;
