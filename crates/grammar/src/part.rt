@@ -9,7 +9,8 @@ pub enum Order {
     AsSet,
 }
 
-/// All events of type `event` strictly inside root number `root`, counted from 0, in laying order.
+/// The events of type `event` inside root number `root`, the root's own event excepted, in the order in which they are laid. Roots are
+/// numbered from 0.
 #[derive(Clone, Copy)]
 pub struct Selection {
     pub root: u8,

@@ -1,4 +1,4 @@
--- The questions that are asked of numbers alone, and the first of them with a "no". Assumes nothing.
+-- The questions that are asked of numbers alone, and the first of them that fails. Assumes nothing.
 use Prim.Native.Nat.{ℕ}
 use mathlib.Core.Bool.{Bool, true, false, cond, _&&_, _||_}
 use lib.Dec.{eqb, leb, ltb}

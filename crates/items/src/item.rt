@@ -6,7 +6,7 @@ use grammar::Order;
 use grammar::Relation;
 use grammar::Selection;
 
-/// An item, by its kind and argument. Those that take patterns or picks take what waits most recently.
+/// An item, by its kind and argument. What it takes, it takes from the top of the stack of waiting patterns or picks.
 #[derive(Clone, Copy)]
 pub enum Item {
     /// Kind 0: nothing.

@@ -32,6 +32,6 @@ most-candidates = 1000000
 abbrev pub most-events : ℕ
 most-events = 64
 
--- the item of a refusal that means no item
+-- the item of a refusal whose question was not asked of an item
 abbrev pub no-item : ℕ
 no-item = 255

@@ -24,5 +24,5 @@ pub const MOST_CANDIDATES: u32 = 1_000_000;
 /// How many events a pattern, a root or a schema lays at most.
 pub const MOST_EVENTS: u32 = 64;
 
-/// The item of a refusal that means no item.
+/// The item of a refusal whose question was not asked of an item.
 pub const NO_ITEM: u8 = 255;

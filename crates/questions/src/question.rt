@@ -3,31 +3,40 @@
 ghost use mathlib.Core.Path.{_≡_};
 ghost use Rattle.questions.specs.Numbers.{number-of};
 
-/// A question; the number of each case is the number that a refusal shows.
+/// A question, by what has to hold. The number of each case is the one that a refusal shows.
 #[derive(Clone, Copy, PartialEq, Eq)]
 pub enum Question {
-    /// Has the table exactly 4 + 3N bytes?
+    /// There are at least 4 bytes, and 4 + 3N in all.
     Bytes = 1,
-    /// Is N from 1 to 255, and R from 1 to 8?
+    /// N lies between 1 and 255, R between 1 and 8.
     Sizes = 2,
-    /// Is the scope from 1 to 5?
+    /// The scope lies between 1 and 5.
     Scope = 3,
-    /// Is the kind at most 15?
+    /// The kind is known.
     Kind = 4,
-    /// Does the argument suit the kind?
+    /// The argument is one that the kind has.
     Argument = 5,
-    /// Does the item find what it takes?
+    /// The item stands where it may, and finds what it takes.
     Takes = 6,
-    /// May the two picks be shared?
+    /// The two picks may be shared.
     Sharing = 7,
-    /// Is the count at most 1,000,000?
+    /// The count is within its limit.
     Count = 8,
-    /// Is the length at most 64?
+    /// The length is within its limit.
     Length = 9,
-    /// Are there R roots, and nothing waiting?
+    /// All roots are closed, and nothing waits.
     Whole = 10,
-    /// Is the total at most 1,000,000?
+    /// The total is within its limit.
     Total = 11,
-    /// Is the sum of the root lengths at most 64?
+    /// The root lengths together are within their limit.
     Events = 12,
+}
+
+impl Question {
+    /// The number of the question.
+    pub fn number(self) -> u8
+        ensures { λ r. ⌜ r ≡ number-of self ⌝ }
+    {
+        self as u8
+    }
 }

@@ -1,26 +1,16 @@
 //! A refusal, and the line that shows it.
 
-ghost use mathlib.Core.Path.{_≡_};
 ghost use Rattle.std.specs.declared.option.Option.the-variants.{Some};
-ghost use Rattle.questions.specs.Numbers.{number-of, refusal-line};
+ghost use Rattle.questions.specs.Numbers.{refusal-line};
 use crate::question::Question;
 use crate::question::QuestionPartialEq;
 use std::fmt;
 
-/// The first question with a "no", and the index of the item that it was asked of, 255 where no item is meant.
+/// The first question that failed, and the index of the item that it was asked of. An item of 255 says that it was not asked of one.
 #[derive(Clone, Copy, PartialEq, Eq)]
 pub struct Refusal {
     pub question: Question,
     pub item: u8,
-}
-
-impl Question {
-    /// The number of the question.
-    pub fn number(self) -> u8
-        ensures { λ r. ⌜ r ≡ number-of self ⌝ }
-    {
-        self as u8
-    }
 }
 
 /// `no QUESTION ITEM`, in decimal.

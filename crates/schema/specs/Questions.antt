@@ -89,6 +89,7 @@ shared-at b i = shared b (item-at b i) (earlier (state b i .picks)) (later (stat
 unfoldable pub made-at : List ℕ → ℕ → Pattern
 made-at b i = made (item-at b i) (state b i .patterns)
 
+-- picks and operations make nothing, of which neither question fails
 unfoldable pub sized-at : List ℕ → ℕ → ℕ → Option Question
 sized-at b s i = sized (count s (made-at b i)) (len s (made-at b i))
 
@@ -103,7 +104,7 @@ asks b s i = first-no (asked-at b s i) (first-no (shared-at b i) (sized-at b s i
 unfoldable pub closing-at : List ℕ → ℕ → Option Question
 closing-at b s = closing (tally-at b (item-count b)) (candidates s (schema-of b .roots)) (events s (schema-of b .roots))
 
--- The answer: the total, or the first no with its item.
+-- The answer: the total, or the first that fails, with its item.
 
 abbrev pub answered : Option Question → ℕ → Result ℕ Refusal → Result ℕ Refusal
 answered (Some q) i r = Err (record { question = q; item = i })

@@ -16,7 +16,7 @@ pub struct Root {
     pub length: u8,
 }
 
-/// The roots in order, zeros after the last.
+/// The roots in order. An entry without a root is all zero.
 #[derive(Clone, Copy)]
 pub struct Plan {
     pub roots: [Root; MOST_ROOTS],

@@ -122,7 +122,7 @@ impl Progress {
         }
     }
 
-    /// Asks questions 4 to 9 of item `i`, and counts it where none has a "no".
+    /// Asks questions 4 to 9 of item `i`, and counts it where none fails.
     pub(crate) fn take(&mut self, table: &[u8], i: usize) -> Option<Question>
         requires sized { ⌜ Sized (now table) ⌝ }
         requires within { ⌜ i < item-count (now table) ⌝ }

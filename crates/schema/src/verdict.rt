@@ -11,7 +11,7 @@ use items::ask_whole;
 use questions::Refusal;
 use questions::limits::NO_ITEM;
 
-/// The number of candidates that a table has at a scope, with the caller's plan filled, or the first question with a "no"; then the plan
+/// The number of candidates that a table has at a scope, with the caller's plan filled, or the first question that fails; then the plan
 /// stays as it was.
 pub fn check(table: &[u8], scope: u8, plan: &mut Plan) -> Result<u32, Refusal>
     ensures answer { λ r. ⌜ r ≡ verdict (now (table .entry)) scope ⌝ }
