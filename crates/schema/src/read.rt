@@ -70,19 +70,18 @@ pub(crate) fn measure_of(table: &[u8], scope: u8, known: &Known, i: usize) -> Me
     if i < known.len {
         return known.measures[i];
     }
-    match item_at(table, i) {
+    let item = item_at(table, i);
+    match item {
         Item::Nothing => Measure::nothing(),
         Item::Atom(_) => Measure::atom(),
         Item::Event(_) => measure_of(table, scope, known, i - 1).inside(),
-        Item::Both(_) => {
+        Item::Both(_) | Item::Either => {
             let later = measure_of(table, scope, known, i - 1);
             let earlier = measure_of(table, scope, known, i - 1 - usize::from(later.items));
-            earlier.both(later)
-        }
-        Item::Either => {
-            let later = measure_of(table, scope, known, i - 1);
-            let earlier = measure_of(table, scope, known, i - 1 - usize::from(later.items));
-            earlier.either(later)
+            match item {
+                Item::Either => earlier.either(later),
+                _ => earlier.both(later),
+            }
         }
         Item::Repeat(_, least, most) => {
             let once = measure_of(table, scope, known, i - 1);
