@@ -1,10 +1,10 @@
 -- The measure of a pattern follows from the measures of its parts.
-use Prim.Native.Nat.{ℕ, min, max, _+_, _*_}
-use mathlib.Core.Path.{_≡_, refl, sym, ap, ap₂, _∙_}
+use Prim.Native.Nat.{ℕ, _+_}
+use mathlib.Core.Path.{_≡_}
 use native.Mathlib.Omega.{arith}
 use Rattle.questions.specs.Limits.{most-events}
-use Rattle.grammar.specs.Pattern.{Pattern, nothing, atom, event, both, either, repeat, most, powers, span, count, len, size}
-use Rattle.grammar.specs.Measures.{items-capped, count-capped, length-capped, measure-of, nothing-measure, atom-measure, inside-measure, both-measure, either-measure, repeat-measure}
+use Rattle.grammar.specs.Pattern.{Pattern, event, both, either, repeat, most, span, count, len}
+use Rattle.grammar.specs.Measures.{measure-of, inside-measure, both-measure, either-measure, repeat-measure}
 use Rattle.grammar.specs.declared.measure.Measure.{Measure}
 use Rattle.grammar.specs.declared.part.Order.{Order}
 use Rattle.grammar.proofs.Caps.{min-mul-right, capped-mul, capped-powers}

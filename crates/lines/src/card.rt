@@ -5,7 +5,6 @@ ghost use mathlib.Core.List.{_++_};
 ghost use Rattle.std.specs.Of.String.{string-bytes};
 ghost use Rattle.std.specs.Vec.{made};
 ghost use Rattle.lines.specs.Card.{entry-line, entry-lines, total-line, card};
-use questions::Refusal;
 use questions::refusal::RefusalDisplay;
 use schema::Plan;
 use schema::Root;

@@ -1,13 +1,13 @@
 -- How the counts of a check go on with one more item.
-use Prim.Native.Nat.{ℕ, zero, suc, min, _+_, _-_, _*_, _≤_, _<_}
+use Prim.Native.Nat.{ℕ, suc, _+_, _-_, _*_, _≤_, _<_}
 use mathlib.Core.Path.{_≡_, refl, sym, ap, ap₂, _∙_}
 use mathlib.Core.List.{List, [], _∷_, _++_}
 use mathlib.Core.Logic.{_⊎_, inl, inr}
 use native.Mathlib.Omega.{arith}
 use native.Mathlib.Nat.{mul-comm, mul-assoc}
-use lib.ListN.{length, getD, set, replicate, length-append}
+use lib.ListN.{length, set, replicate, length-append}
 use Rattle.questions.specs.Limits.{most-roots, most-candidates, most-events}
-use Rattle.grammar.specs.Pattern.{Pattern, nothing, atom, event, both, either, repeat, count, len, size}
+use Rattle.grammar.specs.Pattern.{Pattern, event, count, len, size}
 use Rattle.grammar.specs.Schema.{Rooted, candidates, events}
 use Rattle.grammar.specs.Measures.{measure-of, count-capped}
 use Rattle.grammar.specs.declared.measure.Measure.{Measure}

@@ -1,6 +1,6 @@
 -- A table is accepted exactly when it is the writing of a schema within the limits.
 use Prim.Native.Nat.{ℕ, zero, suc, _+_, _-_, _*_, _≤_, _<_}
-use mathlib.Core.Path.{_≡_, refl, sym, ap, ap₂, subst, _∙_}
+use mathlib.Core.Path.{_≡_, refl, sym, ap, subst, _∙_}
 use mathlib.Core.List.{List, [], _∷_, _++_}
 use mathlib.Core.Bool.{Bool, true, false, cond, not, _&&_}
 use mathlib.Core.Logic.{_⊎_, inl, inr}
@@ -20,25 +20,21 @@ use Rattle.grammar.specs.Pattern.{count, len}
 use Rattle.grammar.specs.Schema.{Rooted, Schema, candidates, events}
 use Rattle.grammar.specs.declared.part.Relation.the-variants.{Share, Coordinate, AsMany, NoMore, FewerBefore}
 use Rattle.grammar.specs.declared.part.Selection.{Selection}
-use Rattle.items.specs.Items.{kind-of, argument-of}
 use Rattle.items.specs.Asked.{asked, sized, closing}
 use Rattle.items.specs.declared.ask.Tally.{Tally}
 use Rattle.schema.specs.Bytes.{item-count, root-count, kind-at, argument-at, item-at}
 use Rattle.schema.specs.Reading.{State, start, step, state, tally-at, made, earlier, later, schema-of}
-use Rattle.schema.specs.Plans.{plan-of}
 use Rattle.schema.specs.Questions.{asked-at, encloses, enclosed, shares, shared, shared-at, sized-at, made-at, asks, first-no, opening, closing-at, answered, from, verdict, planned}
 use Rattle.schema.specs.Writing.{items-of, roots-written, coded, writing}
-use Rattle.grammar.specs.Fits.{Small}
-use Rattle.schema.specs.Within.{Within}
-use Rattle.schema.specs.Promises.{Writes, Accepted, Tables-are-schemas}
+use Rattle.schema.specs.Promises.{Writes, Tables-are-schemas}
 use Rattle.items.specs.declared.item.Item.{Item}
 use Rattle.items.specs.declared.item.Item.the-variants.{Nothing, Atom, Event, Both, Either, Repeat, Root, Pick, Relate, AtMost, Unknown}
 use Rattle.schema.specs.declared.plan.Plan.{Plan}
-use Rattle.items.proofs.Passing.{Suited, passed-asked, asked-says}
+use Rattle.items.proofs.Passing.{passed-asked, asked-says}
 use Rattle.schema.proofs.Steps.{suited-at, found-at}
-use Rattle.schema.proofs.Verdicts.{sized-none, asks-sized, opened, Opened, verdict-from, from-last, ended, planned-yes}
+use Rattle.schema.proofs.Verdicts.{sized-none, asks-sized, opened, Opened, verdict-from, ended, planned-yes}
 use Rattle.schema.proofs.Advance.{advance, advance-append, Unenclosed, unenclosed-append, Related, Shared, Good, Passing, join, split, between, passes-schema, leaves-schema}
-use Rattle.schema.proofs.Through.{unenclosed-parts, held, Read, reads}
+use Rattle.schema.proofs.Through.{unenclosed-parts, held, reads}
 use Rattle.schema.proofs.Coding.{firsts, length-firsts, Says, Bytes, is-coded, Suited-all, Decoded, decoded}
 
 -- what the first items read to is what they advance to

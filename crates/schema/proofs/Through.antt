@@ -1,5 +1,5 @@
 -- Items that pass, leaving the stated roots and nothing waiting, are the writing of the schema that they leave.
-use Prim.Native.Nat.{ℕ, suc, _+_, _≤_, _<_}
+use Prim.Native.Nat.{ℕ, _+_, _≤_, _<_}
 use mathlib.Core.Path.{_≡_, refl, sym, ap, ap₂, subst, _∙_}
 use mathlib.Core.List.{List, [], _∷_, _++_, append-nil, append-assoc}
 use mathlib.Core.Logic.{_⊎_, inl, inr}
@@ -14,7 +14,7 @@ use Rattle.grammar.specs.declared.part.Relation.the-variants.{Share, Coordinate
 use Rattle.grammar.specs.declared.part.Selection.{Selection}
 use Rattle.schema.specs.Reading.{State, start, step, stacked, rooted, picked, operated, made, top, earlier, later}
 use Rattle.schema.specs.Writing.{written, roots-written, operation-written, operations-written, items-of}
-use Rattle.grammar.specs.Fits.{Small, Fits, Roots-fit, Leaf, Leaves, Selects, Relates, Operates, Operate}
+use Rattle.grammar.specs.Fits.{Small, Fits, Roots-fit, Leaf, Leaves, Selects, Relates, Operate}
 use Rattle.items.specs.declared.item.Item.{Item}
 use Rattle.items.specs.declared.item.Item.the-variants.{Nothing, Atom, Event, Both, Either, Repeat, Root, Pick, Relate, AtMost, Unknown}
 use Rattle.items.proofs.Passing.{Found, Suited}

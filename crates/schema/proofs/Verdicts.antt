@@ -1,7 +1,7 @@
 -- How the verdict goes on from item to item, and what its questions tell where they have no "no".
-use Prim.Native.Nat.{ℕ, zero, suc, min, _+_, _-_, _*_, _≤_, _<_}
-use mathlib.Core.Path.{_≡_, refl, sym, ap, ap₂, subst, _∙_}
-use mathlib.Core.List.{List, [], _∷_}
+use Prim.Native.Nat.{ℕ, suc, min, _+_, _-_, _*_, _≤_, _<_}
+use mathlib.Core.Path.{_≡_, refl, sym, ap, ap₂, _∙_}
+use mathlib.Core.List.{List}
 use mathlib.Core.Logic.{_⊎_, inl, inr, _≢_}
 use mathlib.Core.Bool.{Bool, true, false, cond, _&&_}
 use native.Mathlib.Omega.{arith}
@@ -11,17 +11,15 @@ use lib.Seq.{getD-set-same, getD-set-other}
 use Rattle.std.proofs.shelf.Tests.{and-parts, leb-true, eqb-true, lt-leb, cases-lt}
 use Rattle.std.specs.declared.option.Option.{Option}
 use Rattle.std.specs.declared.option.Option.the-variants.{Some, None}
-use Rattle.std.specs.declared.result.Result.{Result}
 use Rattle.std.specs.declared.result.Result.the-variants.{Ok, Err}
 use Rattle.questions.specs.Limits.{most-items, most-roots, most-scope, most-candidates, most-events, no-item}
 use Rattle.questions.specs.declared.question.Question.{Question}
 use Rattle.questions.specs.declared.question.Question.the-variants.{Bytes, Sizes, Scope, Count, Length, Whole, Total, Events}
 use Rattle.questions.specs.declared.refusal.Refusal.{Refusal}
-use Rattle.grammar.specs.Pattern.{Pattern, count, len}
+use Rattle.grammar.specs.Pattern.{count, len}
 use Rattle.grammar.specs.Schema.{candidates, events}
-use Rattle.grammar.specs.Measures.{measure-of, count-capped}
+use Rattle.grammar.specs.Measures.{measure-of}
 use Rattle.grammar.specs.declared.measure.Measure.{Measure}
-use Rattle.grammar.specs.declared.part.Selection.{Selection}
 use Rattle.items.specs.Asked.{asked, sized, closing}
 use Rattle.items.specs.declared.ask.Tally.{Tally}
 use Rattle.items.specs.declared.item.Item.{Item}
@@ -29,7 +27,7 @@ use Rattle.schema.specs.Bytes.{item-count, root-count, argument-at, item-at}
 use Rattle.schema.specs.Reading.{state, tally-at, pattern-at, schema-of}
 use Rattle.schema.specs.Plans.{plan-of}
 use Rattle.schema.specs.Questions.{asked-at, shared, shared-at, sized-at, made-at, asks, first-no, bytes-fit, sizes-fit, opening, closing-at, answered, from, verdict, replaced, planned}
-use Rattle.schema.specs.Progress.{Sized, Ends, Knows, no-measure, Counted, Holds}
+use Rattle.schema.specs.Progress.{Sized, Ends, Knows, no-measure, Counted}
 use Rattle.schema.specs.declared.known.Known.{Known}
 use Rattle.schema.specs.declared.plan.Plan.{Plan}
 use Rattle.schema.specs.declared.progress.Progress.{Progress}

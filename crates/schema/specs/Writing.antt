@@ -1,12 +1,12 @@
 -- How a schema is written as a table: its items in postfix order, and their bytes. Assumes nothing.
-use Prim.Native.Nat.{ℕ, _+_, _*_, _/_, _%_}
+use Prim.Native.Nat.{ℕ, _/_, _%_}
 use mathlib.Core.List.{List, [], _∷_, _++_}
 use lib.ListN.{length}
 use Rattle.grammar.specs.Pattern.{Pattern, nothing, atom, event, both, either, repeat}
 use Rattle.grammar.specs.Schema.{Rooted, Operation, relate, at-most, Schema}
 use Rattle.items.specs.Items.{kind-of, argument-of}
 use Rattle.items.specs.declared.item.Item.{Item}
-use Rattle.items.specs.declared.item.Item.the-variants.{Nothing, Atom, Event, Both, Either, Repeat, Root, Pick, Relate, AtMost, Unknown}
+use Rattle.items.specs.declared.item.Item.the-variants.{Nothing, Atom, Event, Both, Either, Repeat, Root, Pick, Relate, AtMost}
 
 abbrev pub written : Pattern → List Item
 written nothing = Nothing ∷ []

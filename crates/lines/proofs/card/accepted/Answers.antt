@@ -1,8 +1,7 @@
-use Prim.Native.Nat.{_<_}
-use mathlib.Core.Path.{_≡_, sym, ap, ap₂, _∙_}
+use mathlib.Core.Path.{sym, ap, ap₂, _∙_}
 use mathlib.Core.List.{_++_}
 use native.Mathlib.Omega.{arith}
-use lib.ListN.{length, getD, take}
+use lib.ListN.{getD}
 use Rattle.std.proofs.shelf.Lists.{take-all}
 use Rattle.schema.specs.Plans.{no-root}
 use Rattle.lines.specs.Card.{entry-line, entry-lines}
@@ -11,8 +10,6 @@ use Rattle.lines.proofs.card.accepted.Needs as need
 
 pub loop-root-again : need.loop-root-again
 loop-root-again c =
-    let rs = c .args .roots .now in
-    let k = c .loop-root .root-index in
     c .in-Continue-push-root .ensures tt
     ∙ (ap (λ l. l ++ entry-line (getD (c .args .roots .now) (c .loop-root .root-index) no-root)) (c .loop-root .inv)
     ∙ sym (entry-lines-more (c .args .roots .now) (c .loop-root .root-index) no-root (omega (arith, c .loop-root-test .taken))))

@@ -1,13 +1,12 @@
-use Prim.Native.Nat.{ℕ}
-use mathlib.Core.Path.{_≡_, refl, sym, ap, subst, _∙_}
-use mathlib.Core.List.{List, [], _++_}
+use mathlib.Core.Path.{_≡_, sym, ap, subst, _∙_}
+use mathlib.Core.List.{_++_}
 use Rattle.std.specs.Of.String.{string-bytes}
 use Rattle.std.specs.Vec.{made}
 use Rattle.schema.specs.Plans.{plan-of}
 use Rattle.schema.specs.Reading.{schema-of}
 use Rattle.schema.specs.declared.plan.Plan.{Plan}
 use Rattle.schema.proofs.Verdicts.{planned-yes}
-use Rattle.lines.specs.Card.{entry-lines, root-lines, total-line, card}
+use Rattle.lines.specs.Card.{entry-lines, root-lines, total-line}
 use Rattle.lines.proofs.Entries.{plan-lines, card-yes, card-no}
 use Rattle.lines.proofs.card.card_of.Needs as need
 

@@ -1,16 +1,16 @@
-use Prim.Native.Nat.{ℕ, suc, _-_, _≤_, _<_}
+use Prim.Native.Nat.{ℕ, _-_, _<_}
 use mathlib.Core.Path.{_≡_, refl, sym, ap, _∙_}
 use mathlib.Core.List.{List}
 use mathlib.Core.Logic.{_⊎_, inl, inr}
 use native.Mathlib.Omega.{arith}
 use lib.ListN.{length}
-use Rattle.grammar.specs.Pattern.{Pattern, nothing, event}
+use Rattle.grammar.specs.Pattern.{nothing}
 use Rattle.grammar.specs.Measures.{measure-of, inside-measure}
 use Rattle.grammar.specs.declared.part.Relation.{Relation}
 use Rattle.grammar.specs.declared.part.Selection.{Selection}
 use Rattle.grammar.proofs.Measures.{inside-measures}
 use Rattle.schema.specs.Bytes.{item-count, root-count, item-at}
-use Rattle.schema.specs.Reading.{state, top, stacked, made, pattern-at}
+use Rattle.schema.specs.Reading.{state, top, made, pattern-at}
 use Rattle.schema.specs.Questions.{asked-at, made-at}
 use Rattle.schema.specs.Progress.{Sized, Ends}
 use Rattle.std.specs.declared.option.Option.the-variants.{None}
