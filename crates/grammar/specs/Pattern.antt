@@ -22,7 +22,7 @@ pub data Pattern : Type 0 where
 abbrev pub most : ℕ → ℕ → ℕ
 most s b = cond (eqb b scope-mark) s b
 
--- the sum of c to the power k for the n numbers k from a on
+-- c^a + c^(a+1) + .., n powers in all
 abbrev pub powers : ℕ → ℕ → ℕ → ℕ
 powers c zero a = 0
 powers c (suc n) a = c ^ a + powers c n (suc a)

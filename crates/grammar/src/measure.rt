@@ -64,7 +64,7 @@ fn power_capped(c: u32, k: u8) -> u32
     power
 }
 
-/// The sum of `c` to the power k, for k from `least` to `most`.
+/// All powers of `c` from the `least`-th to the `most`-th, added up.
 fn powers_capped(c: u32, least: u8, most: u8) -> u32
     ensures { λ r. ⌜ r ≡ count-capped (powers c (span least most) least) ⌝ }
 {

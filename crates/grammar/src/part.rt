@@ -20,9 +20,9 @@ pub struct Selection {
 /// What an operation does with two selections A and B, or demands of them.
 #[derive(Clone, Copy)]
 pub enum Relation {
-    /// SHARE ALL: the k-th A and the k-th B are one event.
+    /// SHARE ALL: each A is one event with the B of its number.
     Share,
-    /// COORDINATE: the k-th A precedes the k-th B.
+    /// COORDINATE: each A precedes the B with its number.
     Coordinate,
     /// There are as many A as B.
     AsMany,
