@@ -1,4 +1,4 @@
-//! What patterns and operations are told apart by.
+//! The small parts of patterns and operations: order, selections, relations.
 
 /// Whether the members of a pair or of a repetition follow one another.
 #[derive(Clone, Copy)]
@@ -20,9 +20,9 @@ pub struct Selection {
 /// What an operation does with two selections A and B, or demands of them.
 #[derive(Clone, Copy)]
 pub enum Relation {
-    /// SHARE ALL: each A is one event with the B of its number.
+    /// SHARE ALL: the events of A and of B become one, place by place.
     Share,
-    /// COORDINATE: each A precedes the B with its number.
+    /// COORDINATE: the events of A precede those of B, place by place.
     Coordinate,
     /// There are as many A as B.
     AsMany,

@@ -19,6 +19,7 @@ use Rattle.items.specs.declared.ask.Tally.{Tally}
 use Rattle.items.specs.declared.item.Item.{Item}
 use Rattle.items.specs.declared.item.Item.the-variants.{Nothing, Atom, Event, Both, Either, Repeat, Root, Pick, Relate, AtMost, Unknown}
 use Rattle.items.proofs.Passing.{Found, Suited}
+use Rattle.schema.proofs.Steps.{tallied}
 
 abbrev pub advance : List Item → State → State
 advance [] S = S
@@ -55,7 +56,7 @@ Shared all (AtMost n) xs = Unit {0}
 Shared all Unknown xs = Unit {0}
 
 abbrev pub tally : ℕ → State → Tally
-tally r S = record { roots = r; closed = length (S .roots); patterns = length (S .patterns); picks = length (S .picks) }
+tally r S = tallied r (length (S .roots)) (length (S .patterns)) (length (S .picks))
 
 -- the item passes questions 4 to 9
 pub record Good (s r : ℕ) (all : List Item) (it : Item) (S : State) : Type 0 where
@@ -126,15 +127,15 @@ wrote-roots (x ∷ rs) done =
     after (written (x .pattern)) (Root (x .event) ∷ roots-written rs) (between done []) (push (x .pattern) (between done [])) (wrote (x .pattern) (between done []))
     ∙ (wrote-roots rs (done ++ (x ∷ [])) ∙ ap (λ l. between l []) (append-assoc done (x ∷ []) rs))
 
+wrote-operation : (rs : List Rooted) (done : List Operation) (o : Operation) → advance (operation-written o) (between rs done) ≡ between rs (done ++ (o ∷ []))
+wrote-operation rs done (relate r x y) = refl
+wrote-operation rs done (at-most n x) = refl
+
 wrote-operations : (rs : List Rooted) (os done : List Operation) → advance (operations-written os) (between rs done) ≡ between rs (done ++ os)
 wrote-operations rs [] done = ap (between rs) (sym (append-nil done))
 wrote-operations rs (o ∷ os) done =
-    after (operation-written o) (operations-written os) (between rs done) (between rs (done ++ (o ∷ []))) (one o)
+    after (operation-written o) (operations-written os) (between rs done) (between rs (done ++ (o ∷ []))) (wrote-operation rs done o)
     ∙ (wrote-operations rs os (done ++ (o ∷ [])) ∙ ap (between rs) (append-assoc done (o ∷ []) os))
-  where
-    one : (o : Operation) → advance (operation-written o) (between rs done) ≡ between rs (done ++ (o ∷ []))
-    one (relate r x y) = refl
-    one (at-most n x) = refl
 
 module _ (s r : ℕ) (all : List Item) where
   passes-roots : (rs done : List Rooted) → Roots-fit s rs → length done + length rs ≤ r → Passing s r all (roots-written rs) (between done [])
@@ -173,12 +174,8 @@ module _ (s r : ℕ) (all : List Item) where
   passes-operations : (rs : List Rooted) (os done : List Operation) → length rs ≡ r → ((t : ℕ) → Leaves t rs → Unenclosed t all) → Operate rs os → Passing s r all (operations-written os) (between rs done)
   passes-operations rs [] done e u h = tt
   passes-operations rs (o ∷ os) done e u h =
-      join-at s r all (operation-written o) (operations-written os) (between rs done) (between rs (done ++ (o ∷ []))) (one o)
+      join-at s r all (operation-written o) (operations-written os) (between rs done) (between rs (done ++ (o ∷ []))) (wrote-operation rs done o)
       (passes-operation rs o done e u (h .0)) (passes-operations rs os (done ++ (o ∷ [])) e u (h .1))
-    where
-      one : (o : Operation) → advance (operation-written o) (between rs done) ≡ between rs (done ++ (o ∷ []))
-      one (relate r x y) = refl
-      one (at-most n x) = refl
 
 -- Types that no item encloses.
 
