@@ -79,7 +79,7 @@ def main():
         new = "".join(x if note.match(x) else word.sub(swap, x) for x in lines)
         with open(path, "w", encoding="utf-8") as f:
             f.write(new)
-    for path in PAGES:
+    for path in filter(os.path.exists, PAGES):
         text = read(path)
         new = re.sub(r"`[^`\n]*`", lambda m: word.sub(turned, m[0]), text)
         with open(path, "w", encoding="utf-8") as f:

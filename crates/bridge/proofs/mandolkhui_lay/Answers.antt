@@ -10,6 +10,6 @@ events_more b s n m h =
 pub loop-number-preserved : goal.loop-number-preserved
 loop-number-preserved c =
     let h = c.in-Ok.ensures.holds in
-    let e = c.events-at-events.ensures.events ∙ ap₂ (λ b s. events_at b s c.loop-number.number) h.0 h.1 in
+    let e = c.events_at-events.ensures.events ∙ ap₂ (λ b s. events_at b s c.loop-number.number) h.0 h.1 in
     let m = events_more c.args.table.now c.args.scope c.loop-number.number c.args.last c.loop-number-test.true in
-    (omega (arith, e, m, c.loop-number.invariant.0), omega (arith, c.events-at-events.ensures.few, c.loop-number.invariant.1, c.loop-number.auto))
+    (omega (arith, e, m, c.loop-number.invariant.0), omega (arith, c.events_at-events.ensures.few, c.loop-number.invariant.1, c.loop-number.auto))

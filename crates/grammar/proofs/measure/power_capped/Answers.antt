@@ -8,4 +8,4 @@ pub loop-i-init : goal.loop-i-init
 loop-i-init c = sym (ap count_capped (pow-zero c.args.c))
 
 pub loop-i-preserved : goal.loop-i-preserved
-loop-i-preserved c = c.product-capped-power.ensures ∙ (ap (λ z. count_capped (z * c.args.c)) c.loop-i.invariant ∙ capped_power_more c.args.c c.loop-i.-i)
+loop-i-preserved c = c.product_capped-power.ensures ∙ (ap (λ z. count_capped (z * c.args.c)) c.loop-i.invariant ∙ capped_power_more c.args.c c.loop-i._i)

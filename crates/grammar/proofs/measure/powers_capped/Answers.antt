@@ -12,13 +12,13 @@ one_more c a k s p r le e f g =
 
 pub loop-k-preserved : goal.loop-k-preserved
 loop-k-preserved c = (
-  one_more c.args.c c.args.least c.loop-k.-k _ _ _ c.loop-k.auto.-k c.loop-k.invariant.0 c.loop-k.invariant.1 c.sum-capped-sum.ensures
-      ∙ ap (λ i. count_capped (powers c.args.c i c.args.least)) {x = suc (c.loop-k.-k - c.args.least)} {y = c.loop-k.-k + 1 - c.args.least} (omega (arith, c.loop-k.auto.-k)),
-  c.product-capped-power.ensures ∙ (ap (λ z. count_capped (z * c.args.c)) c.loop-k.invariant.1 ∙ capped_power_more c.args.c c.loop-k.-k),
+  one_more c.args.c c.args.least c.loop-k._k _ _ _ c.loop-k.auto._k c.loop-k.invariant.0 c.loop-k.invariant.1 c.sum_capped-sum.ensures
+      ∙ ap (λ i. count_capped (powers c.args.c i c.args.least)) {x = suc (c.loop-k._k - c.args.least)} {y = c.loop-k._k + 1 - c.args.least} (omega (arith, c.loop-k.auto._k)),
+  c.product_capped-power.ensures ∙ (ap (λ z. count_capped (z * c.args.c)) c.loop-k.invariant.1 ∙ capped_power_more c.args.c c.loop-k._k),
   omega arith,
 )
 
-pub returns·2 : goal.returns·2
-returns·2 c =
-    one_more c.args.c c.args.least c.loop-k.-k _ _ _ c.loop-k.auto.-k c.loop-k.invariant.0 c.loop-k.invariant.1 c.sum-capped-sum.ensures
-    ∙ ap (λ i. count_capped (powers c.args.c i c.args.least)) {x = suc (c.loop-k.-k - c.args.least)} {y = suc c.args.most - c.args.least} (omega arith)
+pub returns-2 : goal.returns-2
+returns-2 c =
+    one_more c.args.c c.args.least c.loop-k._k _ _ _ c.loop-k.auto._k c.loop-k.invariant.0 c.loop-k.invariant.1 c.sum_capped-sum.ensures
+    ∙ ap (λ i. count_capped (powers c.args.c i c.args.least)) {x = suc (c.loop-k._k - c.args.least)} {y = suc c.args.most - c.args.least} (omega arith)

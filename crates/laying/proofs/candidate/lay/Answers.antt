@@ -34,23 +34,23 @@ returns-then-number-total c = record {
 pub loop-k-init : goal.loop-k-init
 loop-k-init c = begun_none c.args.schema.now c.args.number c.total-after.result c.nothing-laid.result c.total-after.ensures (omega (arith, c.if-number-total.false, c.total.ensures, c.total-after.ensures)) c.nothing-laid.ensures.shown c.nothing-laid.ensures.none.0 c.nothing-laid.ensures.none.1
 
-pub nonzero-div-after : goal.nonzero-div-after
-nonzero-div-after c = (digit c.args.schema.now c.args.number c.loop-k.k c.loop-k.rest c.loop-k.after c.loop-k.laid c.root-root.result (omega (arith, c.loop-k-test.true, c.if-roots.false, c.roots.ensures)) c.root-root.ensures c.loop-k.invariant).some
+pub nonzero_div-after : goal.nonzero_div-after
+nonzero_div-after c = (digit c.args.schema.now c.args.number c.loop-k.k c.loop-k.rest c.loop-k.after c.loop-k.laid c.root-root.result (omega (arith, c.loop-k-test.true, c.if-roots.false, c.roots.ensures)) c.root-root.ensures c.loop-k.invariant).some
 
-pub lay-root-requires : goal.lay-root-requires
-lay-root-requires c = record {
+pub lay_root-requires : goal.lay_root-requires
+lay_root-requires c = record {
   follows = follows c.args.schema.now c.args.number c.loop-k.k c.loop-k.rest c.loop-k.after c.loop-k.laid c.root-root.result (omega (arith, c.loop-k-test.true, c.if-roots.false, c.roots.ensures)) c.root-root.ensures c.loop-k.invariant;
-  layable = subst (λ n. Layable (table_of c.args.schema.now) c.args.schema.now.scope (c.root-root.result.item - 1) n) (sym c.split-pair-digit.ensures.earlier) (layable c.args.schema.now c.args.number c.loop-k.k c.loop-k.rest c.loop-k.after c.loop-k.laid c.root-root.result (omega (arith, c.loop-k-test.true, c.if-roots.false, c.roots.ensures)) c.root-root.ensures c.loop-k.invariant);
+  layable = subst (λ n. Layable (table_of c.args.schema.now) c.args.schema.now.scope (c.root-root.result.item - 1) n) (sym c.split_pair-digit.ensures.earlier) (layable c.args.schema.now c.args.number c.loop-k.k c.loop-k.rest c.loop-k.after c.loop-k.laid c.root-root.result (omega (arith, c.loop-k-test.true, c.if-roots.false, c.roots.ensures)) c.root-root.ensures c.loop-k.invariant);
   few = few c.args.schema.now c.args.number c.loop-k.k c.loop-k.rest c.loop-k.after c.loop-k.laid c.root-root.result (omega (arith, c.loop-k-test.true, c.if-roots.false, c.roots.ensures)) c.root-root.ensures c.loop-k.invariant;
   room = room_at c.args.schema.now c.args.number c.loop-k.k c.loop-k.rest c.loop-k.after c.loop-k.laid c.root-root.result (omega (arith, c.loop-k-test.true, c.if-roots.false, c.roots.ensures)) c.root-root.ensures c.loop-k.invariant;
 }
 
 pub loop-k-preserved : goal.loop-k-preserved
 loop-k-preserved c =
-    subst (λ m. Begun c.args.schema.now.scope (schema_of (table_of c.args.schema.now)).roots c.args.number (c.loop-k.k + 1) m (c.loop-k.after / c.root-root.result.count) c.lay-root.new.laid) (sym c.split-pair-digit.ensures.later)
-    (begun_more c.args.schema.now c.args.number c.loop-k.k c.loop-k.rest c.loop-k.after c.loop-k.laid c.root-root.result (omega (arith, c.loop-k-test.true, c.if-roots.false, c.roots.ensures)) c.root-root.ensures c.loop-k.invariant c.lay-root.new.laid
-    (subst (λ n. (xs : List Choice) → shown c.loop-k.laid ≡ beginning_of xs → shown c.lay-root.new.laid ≡ beginning_of (xs ++ (node c.root-root.result.event (choice_of c.args.schema.now.scope (pattern_at (table_of c.args.schema.now) (c.root-root.result.item - 1)) n) ∷ []))) c.split-pair-digit.ensures.earlier c.lay-root.ensures.lays)
-    c.lay-root.ensures.roots c.lay-root.ensures.length)
+    subst (λ m. Begun c.args.schema.now.scope (schema_of (table_of c.args.schema.now)).roots c.args.number (c.loop-k.k + 1) m (c.loop-k.after / c.root-root.result.count) c.lay_root.new.laid) (sym c.split_pair-digit.ensures.later)
+    (begun_more c.args.schema.now c.args.number c.loop-k.k c.loop-k.rest c.loop-k.after c.loop-k.laid c.root-root.result (omega (arith, c.loop-k-test.true, c.if-roots.false, c.roots.ensures)) c.root-root.ensures c.loop-k.invariant c.lay_root.new.laid
+    (subst (λ n. (xs : List Choice) → shown c.loop-k.laid ≡ beginning_of xs → shown c.lay_root.new.laid ≡ beginning_of (xs ++ (node c.root-root.result.event (choice_of c.args.schema.now.scope (pattern_at (table_of c.args.schema.now) (c.root-root.result.item - 1)) n) ∷ []))) c.split_pair-digit.ensures.earlier c.lay_root.ensures.lays)
+    c.lay_root.ensures.roots c.lay_root.ensures.length)
 
 pub returns : goal.returns
 returns c = record {

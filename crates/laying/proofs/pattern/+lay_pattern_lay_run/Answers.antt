@@ -21,57 +21,57 @@ layable_as b s i n m e y = record { ends = y.ends; fits = y.fits; below = subst 
 tops_as : (n r : ℕ) (x y : Choice) → x ≡ y → r ≡ mask (tops n y) → r ≡ mask (tops n x)
 tops_as n r x y e h = h ∙ ap (λ z. mask (tops n z)) (sym e)
 
-pub lay-pattern-lay-pattern-requires : goal.lay-pattern-lay-pattern-requires
-lay-pattern-lay-pattern-requires t c =
+pub lay_pattern-lay_pattern-requires : goal.lay_pattern-lay_pattern-requires
+lay_pattern-lay_pattern-requires t c =
     let u = inside_of (table_of c.args.schema.now) c.args.schema.now.scope c.args.i c.args.number c.in-Event.event c.requires.layable c.in-Event.ensures in
     (omega (arith, u.pos), (u.layable, omega (arith, u.long)))
 
-pub lay-pattern-overflow-sub-i-in-Both-3 : goal.lay-pattern-overflow-sub-i-in-Both-3
-lay-pattern-overflow-sub-i-in-Both-3 t c =
+pub lay_pattern-overflow_sub-i-in-Both-3 : goal.lay_pattern-overflow_sub-i-in-Both-3
+lay_pattern-overflow_sub-i-in-Both-3 t c =
     let u = parts_of (table_of c.args.schema.now) c.args.schema.now.scope c.args.i c.args.number c.from.result c.in-Both.order c.measure-later.result c.requires.layable c.in-Both.ensures c.measure-later.ensures c.from.ensures in
     omega (arith, u.room)
 
-pub lay-pattern-lay-pattern-first-requires : goal.lay-pattern-lay-pattern-first-requires
-lay-pattern-lay-pattern-first-requires t c =
+pub lay_pattern-lay_pattern-first-requires : goal.lay_pattern-lay_pattern-first-requires
+lay_pattern-lay_pattern-first-requires t c =
     let u = parts_of (table_of c.args.schema.now) c.args.schema.now.scope c.args.i c.args.number c.from.result c.in-Both.order c.measure-later.result c.requires.layable c.in-Both.ensures c.measure-later.ensures c.from.ensures in
-    (omega (arith, u.room), (layable_as (table_of c.args.schema.now) c.args.schema.now.scope (c.args.i - 1 - c.from.result) c.split-pair-n.result.0 _ c.split-pair-n.ensures.earlier u.first, omega (arith, u.long, c.requires.room)))
+    (omega (arith, u.room), (layable_as (table_of c.args.schema.now) c.args.schema.now.scope (c.args.i - 1 - c.from.result) c.split_pair-n.result.0 _ c.split_pair-n.ensures.earlier u.first, omega (arith, u.long, c.requires.room)))
 
-pub lay-pattern-lay-pattern-second-requires : goal.lay-pattern-lay-pattern-second-requires
-lay-pattern-lay-pattern-second-requires t c =
+pub lay_pattern-lay_pattern-second-requires : goal.lay_pattern-lay_pattern-second-requires
+lay_pattern-lay_pattern-second-requires t c =
     let u = parts_of (table_of c.args.schema.now) c.args.schema.now.scope c.args.i c.args.number c.from.result c.in-Both.order c.measure-later.result c.requires.layable c.in-Both.ensures c.measure-later.ensures c.from.ensures in
-    (omega (arith, u.room), (layable_as (table_of c.args.schema.now) c.args.schema.now.scope (c.args.i - 1) c.split-pair-n.result.1 _ c.split-pair-n.ensures.later u.second, omega (arith, u.long, c.requires.room, c.lay-pattern-first.ensures.length)))
+    (omega (arith, u.room), (layable_as (table_of c.args.schema.now) c.args.schema.now.scope (c.args.i - 1) c.split_pair-n.result.1 _ c.split_pair-n.ensures.later u.second, omega (arith, u.long, c.requires.room, c.lay_pattern-first.ensures.length)))
 
-pub lay-pattern-order-requires : goal.lay-pattern-order-requires
-lay-pattern-order-requires t c =
+pub lay_pattern-order-requires : goal.lay_pattern-order-requires
+lay_pattern-order-requires t c =
     record {
-      places = omega (arith, c.lay-pattern-second.ensures.lays.len);
-      between = tops_between c.args.laid.now.len c.lay-pattern-first.new.laid.len (choice_of c.args.schema.now.scope (pattern_at (table_of c.args.schema.now) (c.args.i - 1 - c.from.result)) c.split-pair-n.result.0) (value c.lay-pattern-first.result) c.lay-pattern-first.ensures.tops c.lay-pattern-first.ensures.lays.len;
+      places = omega (arith, c.lay_pattern-second.ensures.lays.len);
+      between = tops_between c.args.laid.now.len c.lay_pattern-first.new.laid.len (choice_of c.args.schema.now.scope (pattern_at (table_of c.args.schema.now) (c.args.i - 1 - c.from.result)) c.split_pair-n.result.0) (value c.lay_pattern-first.result) c.lay_pattern-first.ensures.tops c.lay_pattern-first.ensures.lays.len;
     }
 
-pub lay-pattern-overflow-sub-at-in-Either : goal.lay-pattern-overflow-sub-at-in-Either
-lay-pattern-overflow-sub-at-in-Either t c =
+pub lay_pattern-overflow_sub-at-in-Either : goal.lay_pattern-overflow_sub-at-in-Either
+lay_pattern-overflow_sub-at-in-Either t c =
     let d = sides_of (table_of c.args.schema.now) c.args.schema.now.scope c.args.i c.args.number c.from-in-Either.result c.measure.result c.requires.layable c.in-Either.ensures c.measure.ensures c.from-in-Either.ensures in
     omega (arith, d.room)
 
-pub lay-pattern-lay-pattern-requires-in-Earlier : goal.lay-pattern-lay-pattern-requires-in-Earlier
-lay-pattern-lay-pattern-requires-in-Earlier t c =
+pub lay_pattern-lay_pattern-requires-in-Earlier : goal.lay_pattern-lay_pattern-requires-in-Earlier
+lay_pattern-lay_pattern-requires-in-Earlier t c =
     let d = sides_of (table_of c.args.schema.now) c.args.schema.now.scope c.args.i c.args.number c.from-in-Either.result c.measure.result c.requires.layable c.in-Either.ensures c.measure.ensures c.from-in-Either.ensures in
     let v = earlier_taken (table_of c.args.schema.now) c.args.schema.now.scope c.args.i c.args.number c.from-in-Either.result c.in-Earlier.n c.measure-in-Either.result c.requires.layable d c.measure-in-Either.ensures c.in-Earlier.ensures in
     (omega (arith, d.room), (v.layable, omega (arith, v.long, c.requires.room)))
 
-pub lay-pattern-lay-pattern-requires-in-Later : goal.lay-pattern-lay-pattern-requires-in-Later
-lay-pattern-lay-pattern-requires-in-Later t c =
+pub lay_pattern-lay_pattern-requires-in-Later : goal.lay_pattern-lay_pattern-requires-in-Later
+lay_pattern-lay_pattern-requires-in-Later t c =
     let d = sides_of (table_of c.args.schema.now) c.args.schema.now.scope c.args.i c.args.number c.from-in-Either.result c.measure.result c.requires.layable c.in-Either.ensures c.measure.ensures c.from-in-Either.ensures in
     let v = later_taken (table_of c.args.schema.now) c.args.schema.now.scope c.args.i c.args.number c.from-in-Either.result c.in-Later.n c.measure-in-Either.result c.requires.layable d c.measure-in-Either.ensures c.in-Later.ensures in
     (omega (arith, d.room), (v.layable, omega (arith, v.long, c.requires.room)))
 
-pub lay-pattern-lay-run-requires : goal.lay-pattern-lay-run-requires
-lay-pattern-lay-run-requires t c =
-    let u = many_of (table_of c.args.schema.now) c.args.schema.now.scope c.args.i c.args.number c.in-Repeat.least c.in-Repeat.most c.most-of.result c.in-Repeat.order c.measure-once.result c.split-times-left.result (checked_sound c.args.schema.now).within.scope_to c.requires.layable c.in-Repeat.ensures c.measure-once.ensures (c.most-of.ensures ∙ ap (λ x. most x c.in-Repeat.most) c.scope.ensures) c.split-times-left.ensures in
+pub lay_pattern-lay_run-requires : goal.lay_pattern-lay_run-requires
+lay_pattern-lay_run-requires t c =
+    let u = many_of (table_of c.args.schema.now) c.args.schema.now.scope c.args.i c.args.number c.in-Repeat.least c.in-Repeat.most c.most_of.result c.in-Repeat.order c.measure-once.result c.split_times-left.result (checked_sound c.args.schema.now).within.scope_to c.requires.layable c.in-Repeat.ensures c.measure-once.ensures (c.most_of.ensures ∙ ap (λ x. most x c.in-Repeat.most) c.scope.ensures) c.split_times-left.ensures in
     (omega (arith, u.pos, u.few), (u.ends, (u.fits, (u.once, (u.power, (u.below, (u.small, (u.few, omega (arith, u.long, c.requires.room)))))))))
 
-pub lay-pattern-returns-in-Nothing : goal.lay-pattern-returns-in-Nothing
-lay-pattern-returns-in-Nothing t c =
+pub lay_pattern-returns-in-Nothing : goal.lay_pattern-returns-in-Nothing
+lay_pattern-returns-in-Nothing t c =
     let e = nothing_at (table_of c.args.schema.now) c.args.schema.now.scope c.args.i c.args.number c.requires.layable.ends c.in-Nothing.ensures in
     record {
       lays = lays_as c.args.around _ empty c.args.laid.now c.args.laid.now e (lays_empty c.args.around c.args.laid.now);
@@ -79,8 +79,8 @@ lay-pattern-returns-in-Nothing t c =
       length = omega arith;
     }
 
-pub lay-pattern-returns-in-Atom : goal.lay-pattern-returns-in-Atom
-lay-pattern-returns-in-Atom t c =
+pub lay_pattern-returns-in-Atom : goal.lay_pattern-returns-in-Atom
+lay_pattern-returns-in-Atom t c =
     let p = atom_at (table_of c.args.schema.now) c.args.i c.in-Atom.event c.requires.layable.ends c.in-Atom.ensures in
     let e = ap (λ q. choice_of c.args.schema.now.scope q c.args.number) p in
     record {
@@ -89,56 +89,56 @@ lay-pattern-returns-in-Atom t c =
       length = omega (arith, ap (len c.args.schema.now.scope) p, c.push.ensures.pushed.len);
     }
 
-pub lay-pattern-returns-in-Event : goal.lay-pattern-returns-in-Event
-lay-pattern-returns-in-Event t c =
+pub lay_pattern-returns-in-Event : goal.lay_pattern-returns-in-Event
+lay_pattern-returns-in-Event t c =
     let u = inside_of (table_of c.args.schema.now) c.args.schema.now.scope c.args.i c.args.number c.in-Event.event c.requires.layable c.in-Event.ensures in
     record {
-      lays = lays_as c.args.around _ _ c.args.laid.now c.lay-pattern.new.laid u.is (lays_node c.in-Event.event c.args.around (choice_of c.args.schema.now.scope (pattern_at (table_of c.args.schema.now) (c.args.i - 1)) c.args.number) c.args.laid.now c.push-top.new.self c.lay-pattern.new.laid c.push-top.ensures.pushed c.lay-pattern.ensures.lays);
+      lays = lays_as c.args.around _ _ c.args.laid.now c.lay_pattern.new.laid u.is (lays_node c.in-Event.event c.args.around (choice_of c.args.schema.now.scope (pattern_at (table_of c.args.schema.now) (c.args.i - 1)) c.args.number) c.args.laid.now c.push-top.new.self c.lay_pattern.new.laid c.push-top.ensures.pushed c.lay_pattern.ensures.lays);
       tops = tops_as c.args.laid.now.len (value c.push-top.result) _ _ u.is (c.push-top.ensures.top ∙ tops_node c.args.laid.now.len c.in-Event.event (choice_of c.args.schema.now.scope (pattern_at (table_of c.args.schema.now) (c.args.i - 1)) c.args.number));
-      length = omega (arith, u.long, c.lay-pattern.ensures.length, c.push-top.ensures.pushed.len);
+      length = omega (arith, u.long, c.lay_pattern.ensures.length, c.push-top.ensures.pushed.len);
     }
 
-pub lay-pattern-returns-in-Both : goal.lay-pattern-returns-in-Both
-lay-pattern-returns-in-Both t c =
+pub lay_pattern-returns-in-Both : goal.lay_pattern-returns-in-Both
+lay_pattern-returns-in-Both t c =
     let u = parts_of (table_of c.args.schema.now) c.args.schema.now.scope c.args.i c.args.number c.from.result c.in-Both.order c.measure-later.result c.requires.layable c.in-Both.ensures c.measure-later.ensures c.from.ensures in
-    let e = u.is ∙ ap₂ (λ x y. pair c.in-Both.order (choice_of c.args.schema.now.scope (pattern_at (table_of c.args.schema.now) (c.args.i - 1 - c.from.result)) x) (choice_of c.args.schema.now.scope (pattern_at (table_of c.args.schema.now) (c.args.i - 1)) y)) (sym c.split-pair-n.ensures.earlier) (sym c.split-pair-n.ensures.later) in
+    let e = u.is ∙ ap₂ (λ x y. pair c.in-Both.order (choice_of c.args.schema.now.scope (pattern_at (table_of c.args.schema.now) (c.args.i - 1 - c.from.result)) x) (choice_of c.args.schema.now.scope (pattern_at (table_of c.args.schema.now) (c.args.i - 1)) y)) (sym c.split_pair-n.ensures.earlier) (sym c.split_pair-n.ensures.later) in
     record {
-      lays = lays_as c.args.around _ _ c.args.laid.now c.order.new.self e (lays_pair c.in-Both.order c.args.around (choice_of c.args.schema.now.scope (pattern_at (table_of c.args.schema.now) (c.args.i - 1 - c.from.result)) c.split-pair-n.result.0) (choice_of c.args.schema.now.scope (pattern_at (table_of c.args.schema.now) (c.args.i - 1)) c.split-pair-n.result.1) (value c.lay-pattern-first.result) (value c.lay-pattern-second.result) c.args.laid.now c.lay-pattern-first.new.laid c.lay-pattern-second.new.laid c.order.new.self c.lay-pattern-first.ensures.lays c.lay-pattern-second.ensures.lays c.lay-pattern-first.ensures.tops c.lay-pattern-second.ensures.tops c.order.ensures.ordered);
-      tops = tops_as c.args.laid.now.len (value c.order.result) _ _ e (c.order.ensures.tops ∙ (ap₂ bit_or c.lay-pattern-first.ensures.tops c.lay-pattern-second.ensures.tops ∙ tops_pair c.in-Both.order c.args.laid.now.len c.lay-pattern-first.new.laid.len (choice_of c.args.schema.now.scope (pattern_at (table_of c.args.schema.now) (c.args.i - 1 - c.from.result)) c.split-pair-n.result.0) (choice_of c.args.schema.now.scope (pattern_at (table_of c.args.schema.now) (c.args.i - 1)) c.split-pair-n.result.1) c.lay-pattern-first.ensures.lays.len));
-      length = omega (arith, u.long, c.lay-pattern-first.ensures.length, c.lay-pattern-second.ensures.length, c.order.ensures.ordered.len);
+      lays = lays_as c.args.around _ _ c.args.laid.now c.order.new.self e (lays_pair c.in-Both.order c.args.around (choice_of c.args.schema.now.scope (pattern_at (table_of c.args.schema.now) (c.args.i - 1 - c.from.result)) c.split_pair-n.result.0) (choice_of c.args.schema.now.scope (pattern_at (table_of c.args.schema.now) (c.args.i - 1)) c.split_pair-n.result.1) (value c.lay_pattern-first.result) (value c.lay_pattern-second.result) c.args.laid.now c.lay_pattern-first.new.laid c.lay_pattern-second.new.laid c.order.new.self c.lay_pattern-first.ensures.lays c.lay_pattern-second.ensures.lays c.lay_pattern-first.ensures.tops c.lay_pattern-second.ensures.tops c.order.ensures.ordered);
+      tops = tops_as c.args.laid.now.len (value c.order.result) _ _ e (c.order.ensures.tops ∙ (ap₂ bit_or c.lay_pattern-first.ensures.tops c.lay_pattern-second.ensures.tops ∙ tops_pair c.in-Both.order c.args.laid.now.len c.lay_pattern-first.new.laid.len (choice_of c.args.schema.now.scope (pattern_at (table_of c.args.schema.now) (c.args.i - 1 - c.from.result)) c.split_pair-n.result.0) (choice_of c.args.schema.now.scope (pattern_at (table_of c.args.schema.now) (c.args.i - 1)) c.split_pair-n.result.1) c.lay_pattern-first.ensures.lays.len));
+      length = omega (arith, u.long, c.lay_pattern-first.ensures.length, c.lay_pattern-second.ensures.length, c.order.ensures.ordered.len);
     }
 
-pub lay-pattern-returns-in-Earlier : goal.lay-pattern-returns-in-Earlier
-lay-pattern-returns-in-Earlier t c =
+pub lay_pattern-returns-in-Earlier : goal.lay_pattern-returns-in-Earlier
+lay_pattern-returns-in-Earlier t c =
     let d = sides_of (table_of c.args.schema.now) c.args.schema.now.scope c.args.i c.args.number c.from-in-Either.result c.measure.result c.requires.layable c.in-Either.ensures c.measure.ensures c.from-in-Either.ensures in
     let v = earlier_taken (table_of c.args.schema.now) c.args.schema.now.scope c.args.i c.args.number c.from-in-Either.result c.in-Earlier.n c.measure-in-Either.result c.requires.layable d c.measure-in-Either.ensures c.in-Earlier.ensures in
     record {
-      lays = lays_as c.args.around _ _ c.args.laid.now c.lay-pattern-in-Earlier.new.laid v.is (lays_took earlier c.args.around (choice_of c.args.schema.now.scope (pattern_at (table_of c.args.schema.now) (c.args.i - 1 - c.from-in-Either.result)) c.in-Earlier.n) c.args.laid.now c.lay-pattern-in-Earlier.new.laid c.lay-pattern-in-Earlier.ensures.lays);
-      tops = tops_as c.args.laid.now.len (value c.lay-pattern-in-Earlier.result) _ _ v.is (c.lay-pattern-in-Earlier.ensures.tops ∙ tops_took earlier c.args.laid.now.len (choice_of c.args.schema.now.scope (pattern_at (table_of c.args.schema.now) (c.args.i - 1 - c.from-in-Either.result)) c.in-Earlier.n));
-      length = omega (arith, v.long, c.lay-pattern-in-Earlier.ensures.length);
+      lays = lays_as c.args.around _ _ c.args.laid.now c.lay_pattern-in-Earlier.new.laid v.is (lays_took earlier c.args.around (choice_of c.args.schema.now.scope (pattern_at (table_of c.args.schema.now) (c.args.i - 1 - c.from-in-Either.result)) c.in-Earlier.n) c.args.laid.now c.lay_pattern-in-Earlier.new.laid c.lay_pattern-in-Earlier.ensures.lays);
+      tops = tops_as c.args.laid.now.len (value c.lay_pattern-in-Earlier.result) _ _ v.is (c.lay_pattern-in-Earlier.ensures.tops ∙ tops_took earlier c.args.laid.now.len (choice_of c.args.schema.now.scope (pattern_at (table_of c.args.schema.now) (c.args.i - 1 - c.from-in-Either.result)) c.in-Earlier.n));
+      length = omega (arith, v.long, c.lay_pattern-in-Earlier.ensures.length);
     }
 
-pub lay-pattern-returns-in-Later : goal.lay-pattern-returns-in-Later
-lay-pattern-returns-in-Later t c =
+pub lay_pattern-returns-in-Later : goal.lay_pattern-returns-in-Later
+lay_pattern-returns-in-Later t c =
     let d = sides_of (table_of c.args.schema.now) c.args.schema.now.scope c.args.i c.args.number c.from-in-Either.result c.measure.result c.requires.layable c.in-Either.ensures c.measure.ensures c.from-in-Either.ensures in
     let v = later_taken (table_of c.args.schema.now) c.args.schema.now.scope c.args.i c.args.number c.from-in-Either.result c.in-Later.n c.measure-in-Either.result c.requires.layable d c.measure-in-Either.ensures c.in-Later.ensures in
     record {
-      lays = lays_as c.args.around _ _ c.args.laid.now c.lay-pattern-in-Later.new.laid v.is (lays_took later c.args.around (choice_of c.args.schema.now.scope (pattern_at (table_of c.args.schema.now) (c.args.i - 1)) c.in-Later.n) c.args.laid.now c.lay-pattern-in-Later.new.laid c.lay-pattern-in-Later.ensures.lays);
-      tops = tops_as c.args.laid.now.len (value c.lay-pattern-in-Later.result) _ _ v.is (c.lay-pattern-in-Later.ensures.tops ∙ tops_took later c.args.laid.now.len (choice_of c.args.schema.now.scope (pattern_at (table_of c.args.schema.now) (c.args.i - 1)) c.in-Later.n));
-      length = omega (arith, v.long, c.lay-pattern-in-Later.ensures.length);
+      lays = lays_as c.args.around _ _ c.args.laid.now c.lay_pattern-in-Later.new.laid v.is (lays_took later c.args.around (choice_of c.args.schema.now.scope (pattern_at (table_of c.args.schema.now) (c.args.i - 1)) c.in-Later.n) c.args.laid.now c.lay_pattern-in-Later.new.laid c.lay_pattern-in-Later.ensures.lays);
+      tops = tops_as c.args.laid.now.len (value c.lay_pattern-in-Later.result) _ _ v.is (c.lay_pattern-in-Later.ensures.tops ∙ tops_took later c.args.laid.now.len (choice_of c.args.schema.now.scope (pattern_at (table_of c.args.schema.now) (c.args.i - 1)) c.in-Later.n));
+      length = omega (arith, v.long, c.lay_pattern-in-Later.ensures.length);
     }
 
-pub lay-pattern-returns-in-Repeat : goal.lay-pattern-returns-in-Repeat
-lay-pattern-returns-in-Repeat t c =
-    let u = many_of (table_of c.args.schema.now) c.args.schema.now.scope c.args.i c.args.number c.in-Repeat.least c.in-Repeat.most c.most-of.result c.in-Repeat.order c.measure-once.result c.split-times-left.result (checked_sound c.args.schema.now).within.scope_to c.requires.layable c.in-Repeat.ensures c.measure-once.ensures (c.most-of.ensures ∙ ap (λ x. most x c.in-Repeat.most) c.scope.ensures) c.split-times-left.ensures in
+pub lay_pattern-returns-in-Repeat : goal.lay_pattern-returns-in-Repeat
+lay_pattern-returns-in-Repeat t c =
+    let u = many_of (table_of c.args.schema.now) c.args.schema.now.scope c.args.i c.args.number c.in-Repeat.least c.in-Repeat.most c.most_of.result c.in-Repeat.order c.measure-once.result c.split_times-left.result (checked_sound c.args.schema.now).within.scope_to c.requires.layable c.in-Repeat.ensures c.measure-once.ensures (c.most_of.ensures ∙ ap (λ x. most x c.in-Repeat.most) c.scope.ensures) c.split_times-left.ensures in
     record {
-      lays = lays_as c.args.around _ _ c.args.laid.now c.lay-run.new.laid u.is c.lay-run.ensures.lays;
-      tops = tops_as c.args.laid.now.len (value c.lay-run.result) _ _ u.is c.lay-run.ensures.tops;
-      length = omega (arith, u.long, c.lay-run.ensures.length);
+      lays = lays_as c.args.around _ _ c.args.laid.now c.lay_run.new.laid u.is c.lay_run.ensures.lays;
+      tops = tops_as c.args.laid.now.len (value c.lay_run.result) _ _ u.is c.lay_run.ensures.tops;
+      length = omega (arith, u.long, c.lay_run.ensures.length);
     }
 
-pub lay-run-returns-then-run-eq0 : goal.lay-run-returns-then-run-eq0
-lay-run-returns-then-run-eq0 t c =
+pub lay_run-returns-then-run-eq0 : goal.lay_run-returns-then-run-eq0
+lay_run-returns-then-run-eq0 t c =
     let e = times_none c.args.run.order (choice_of c.args.schema.now.scope (pattern_at (table_of c.args.schema.now) c.args.i)) c.args.run.once c.args.run.left.times c.args.run.left.number c.if-run-eq0.true in
     record {
       lays = lays_as c.args.around _ empty c.args.laid.now c.args.laid.now e (lays_empty c.args.around c.args.laid.now);
@@ -146,40 +146,40 @@ lay-run-returns-then-run-eq0 t c =
       length = omega arith;
     }
 
-pub lay-run-nonzero-div-others : goal.lay-run-nonzero-div-others
-lay-run-nonzero-div-others t c =
+pub lay_run-nonzero_div-others : goal.lay_run-nonzero_div-others
+lay_run-nonzero_div-others t c =
     let u = first_of c.from.result c.args.run.left.times c.args.run.left.power c.args.run.left.number (c.requires.power.0 ∙ ap (λ x. x ^ c.args.run.left.times) (sym c.from.ensures)) c.requires.power.1.0 (not_none c.args.run.left.times c.if-run-eq0.false) in
     u.some
 
-pub lay-run-overflow-cast-others : goal.lay-run-overflow-cast-others
-lay-run-overflow-cast-others t c =
+pub lay_run-overflow_cast-others : goal.lay_run-overflow_cast-others
+lay_run-overflow_cast-others t c =
     let u = first_of c.from.result c.args.run.left.times c.args.run.left.power c.args.run.left.number (c.requires.power.0 ∙ ap (λ x. x ^ c.args.run.left.times) (sym c.from.ensures)) c.requires.power.1.0 (not_none c.args.run.left.times c.if-run-eq0.false) in
     omega (arith, u.less, c.requires.power.1.1)
 
-pub lay-run-lay-pattern-first-requires : goal.lay-run-lay-pattern-first-requires
-lay-run-lay-pattern-first-requires t c =
+pub lay_run-lay_pattern-first-requires : goal.lay_run-lay_pattern-first-requires
+lay_run-lay_pattern-first-requires t c =
     let u = first_of c.from.result c.args.run.left.times c.args.run.left.power c.args.run.left.number (c.requires.power.0 ∙ ap (λ x. x ^ c.args.run.left.times) (sym c.from.ensures)) c.requires.power.1.0 (not_none c.args.run.left.times c.if-run-eq0.false) in
-    (omega arith, (record { ends = c.requires.ends; fits = c.requires.fits; below = omega (arith, u.digit, c.split-pair-n.ensures.earlier, c.from.ensures, c.requires.once) }, omega (arith, times_long c.args.run.left.times (len c.args.schema.now.scope (pattern_at (table_of c.args.schema.now) c.args.i)) (not_none c.args.run.left.times c.if-run-eq0.false), c.requires.room.1)))
+    (omega arith, (record { ends = c.requires.ends; fits = c.requires.fits; below = omega (arith, u.digit, c.split_pair-n.ensures.earlier, c.from.ensures, c.requires.once) }, omega (arith, times_long c.args.run.left.times (len c.args.schema.now.scope (pattern_at (table_of c.args.schema.now) c.args.i)) (not_none c.args.run.left.times c.if-run-eq0.false), c.requires.room.1)))
 
-pub lay-run-lay-run-second-requires : goal.lay-run-lay-run-second-requires
-lay-run-lay-run-second-requires t c =
+pub lay_run-lay_run-second-requires : goal.lay_run-lay_run-second-requires
+lay_run-lay_run-second-requires t c =
     let u = first_of c.from.result c.args.run.left.times c.args.run.left.power c.args.run.left.number (c.requires.power.0 ∙ ap (λ x. x ^ c.args.run.left.times) (sym c.from.ensures)) c.requires.power.1.0 (not_none c.args.run.left.times c.if-run-eq0.false) in
-    (omega (arith, not_none c.args.run.left.times c.if-run-eq0.false), (c.requires.ends, (c.requires.fits, (c.requires.once, (c.from-2.ensures ∙ (u.rest ∙ ap (λ x. x ^ (c.args.run.left.times - 1)) c.from.ensures), (omega (arith, u.left, c.split-pair-n.ensures.later, c.from-2.ensures), (omega (arith, u.less, c.requires.power.1.1, c.from-2.ensures), (omega (arith, c.requires.room.0), omega (arith, times_long c.args.run.left.times (len c.args.schema.now.scope (pattern_at (table_of c.args.schema.now) c.args.i)) (not_none c.args.run.left.times c.if-run-eq0.false), c.requires.room.1, c.lay-pattern-first.ensures.length)))))))))
+    (omega (arith, not_none c.args.run.left.times c.if-run-eq0.false), (c.requires.ends, (c.requires.fits, (c.requires.once, (c.from-2.ensures ∙ (u.rest ∙ ap (λ x. x ^ (c.args.run.left.times - 1)) c.from.ensures), (omega (arith, u.left, c.split_pair-n.ensures.later, c.from-2.ensures), (omega (arith, u.less, c.requires.power.1.1, c.from-2.ensures), (omega (arith, c.requires.room.0), omega (arith, times_long c.args.run.left.times (len c.args.schema.now.scope (pattern_at (table_of c.args.schema.now) c.args.i)) (not_none c.args.run.left.times c.if-run-eq0.false), c.requires.room.1, c.lay_pattern-first.ensures.length)))))))))
 
-pub lay-run-order-requires : goal.lay-run-order-requires
-lay-run-order-requires t c =
+pub lay_run-order-requires : goal.lay_run-order-requires
+lay_run-order-requires t c =
     record {
-      places = omega (arith, c.lay-run-second.ensures.lays.len);
-      between = tops_between c.args.laid.now.len c.lay-pattern-first.new.laid.len (choice_of c.args.schema.now.scope (pattern_at (table_of c.args.schema.now) c.args.i) c.split-pair-n.result.0) (value c.lay-pattern-first.result) c.lay-pattern-first.ensures.tops c.lay-pattern-first.ensures.lays.len;
+      places = omega (arith, c.lay_run-second.ensures.lays.len);
+      between = tops_between c.args.laid.now.len c.lay_pattern-first.new.laid.len (choice_of c.args.schema.now.scope (pattern_at (table_of c.args.schema.now) c.args.i) c.split_pair-n.result.0) (value c.lay_pattern-first.result) c.lay_pattern-first.ensures.tops c.lay_pattern-first.ensures.lays.len;
     }
 
-pub lay-run-returns : goal.lay-run-returns
-lay-run-returns t c =
+pub lay_run-returns : goal.lay_run-returns
+lay_run-returns t c =
     let u = first_of c.from.result c.args.run.left.times c.args.run.left.power c.args.run.left.number (c.requires.power.0 ∙ ap (λ x. x ^ c.args.run.left.times) (sym c.from.ensures)) c.requires.power.1.0 (not_none c.args.run.left.times c.if-run-eq0.false) in
     let e = times_more c.args.run.order (choice_of c.args.schema.now.scope (pattern_at (table_of c.args.schema.now) c.args.i)) c.args.run.once c.args.run.left.times c.args.run.left.number (c.args.run.left.power / c.from.result) (not_none c.args.run.left.times c.if-run-eq0.false) (u.rest ∙ ap (λ x. x ^ (c.args.run.left.times - 1)) c.from.ensures)
-    ∙ ap₂ (λ x y. pair c.args.run.order (choice_of c.args.schema.now.scope (pattern_at (table_of c.args.schema.now) c.args.i) x) (times c.args.run.order (choice_of c.args.schema.now.scope (pattern_at (table_of c.args.schema.now) c.args.i)) c.args.run.once (c.args.run.left.times - 1) y)) (sym c.split-pair-n.ensures.earlier) (sym c.split-pair-n.ensures.later) in
+    ∙ ap₂ (λ x y. pair c.args.run.order (choice_of c.args.schema.now.scope (pattern_at (table_of c.args.schema.now) c.args.i) x) (times c.args.run.order (choice_of c.args.schema.now.scope (pattern_at (table_of c.args.schema.now) c.args.i)) c.args.run.once (c.args.run.left.times - 1) y)) (sym c.split_pair-n.ensures.earlier) (sym c.split_pair-n.ensures.later) in
     record {
-      lays = lays_as c.args.around _ _ c.args.laid.now c.order.new.self e (lays_pair c.args.run.order c.args.around (choice_of c.args.schema.now.scope (pattern_at (table_of c.args.schema.now) c.args.i) c.split-pair-n.result.0) (times c.args.run.order (choice_of c.args.schema.now.scope (pattern_at (table_of c.args.schema.now) c.args.i)) c.args.run.once (c.args.run.left.times - 1) c.split-pair-n.result.1) (value c.lay-pattern-first.result) (value c.lay-run-second.result) c.args.laid.now c.lay-pattern-first.new.laid c.lay-run-second.new.laid c.order.new.self c.lay-pattern-first.ensures.lays c.lay-run-second.ensures.lays c.lay-pattern-first.ensures.tops c.lay-run-second.ensures.tops c.order.ensures.ordered);
-      tops = tops_as c.args.laid.now.len (value c.order.result) _ _ e (c.order.ensures.tops ∙ (ap₂ bit_or c.lay-pattern-first.ensures.tops c.lay-run-second.ensures.tops ∙ tops_pair c.args.run.order c.args.laid.now.len c.lay-pattern-first.new.laid.len (choice_of c.args.schema.now.scope (pattern_at (table_of c.args.schema.now) c.args.i) c.split-pair-n.result.0) (times c.args.run.order (choice_of c.args.schema.now.scope (pattern_at (table_of c.args.schema.now) c.args.i)) c.args.run.once (c.args.run.left.times - 1) c.split-pair-n.result.1) c.lay-pattern-first.ensures.lays.len));
-      length = omega (arith, times_long c.args.run.left.times (len c.args.schema.now.scope (pattern_at (table_of c.args.schema.now) c.args.i)) (not_none c.args.run.left.times c.if-run-eq0.false), c.lay-pattern-first.ensures.length, c.lay-run-second.ensures.length, c.order.ensures.ordered.len);
+      lays = lays_as c.args.around _ _ c.args.laid.now c.order.new.self e (lays_pair c.args.run.order c.args.around (choice_of c.args.schema.now.scope (pattern_at (table_of c.args.schema.now) c.args.i) c.split_pair-n.result.0) (times c.args.run.order (choice_of c.args.schema.now.scope (pattern_at (table_of c.args.schema.now) c.args.i)) c.args.run.once (c.args.run.left.times - 1) c.split_pair-n.result.1) (value c.lay_pattern-first.result) (value c.lay_run-second.result) c.args.laid.now c.lay_pattern-first.new.laid c.lay_run-second.new.laid c.order.new.self c.lay_pattern-first.ensures.lays c.lay_run-second.ensures.lays c.lay_pattern-first.ensures.tops c.lay_run-second.ensures.tops c.order.ensures.ordered);
+      tops = tops_as c.args.laid.now.len (value c.order.result) _ _ e (c.order.ensures.tops ∙ (ap₂ bit_or c.lay_pattern-first.ensures.tops c.lay_run-second.ensures.tops ∙ tops_pair c.args.run.order c.args.laid.now.len c.lay_pattern-first.new.laid.len (choice_of c.args.schema.now.scope (pattern_at (table_of c.args.schema.now) c.args.i) c.split_pair-n.result.0) (times c.args.run.order (choice_of c.args.schema.now.scope (pattern_at (table_of c.args.schema.now) c.args.i)) c.args.run.once (c.args.run.left.times - 1) c.split_pair-n.result.1) c.lay_pattern-first.ensures.lays.len));
+      length = omega (arith, times_long c.args.run.left.times (len c.args.schema.now.scope (pattern_at (table_of c.args.schema.now) c.args.i)) (not_none c.args.run.left.times c.if-run-eq0.false), c.lay_pattern-first.ensures.length, c.lay_run-second.ensures.length, c.order.ensures.ordered.len);
     }

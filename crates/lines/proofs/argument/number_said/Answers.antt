@@ -27,7 +27,7 @@ returns-then-argument-lt1 c = elim c.then-argument-lt1.either [ inl h ↦ too_fe
 pub returns-in-None : goal.returns-in-None
 returns-in-None c =
     one_more c.loop-digit.number c.loop-digit.digit-index c.args.argument.now None c.loop-digit-test.true c.loop-digit.invariant c.in-None.ensures
-    ∙ sym (as_said c.args.argument.now c.if-argument-lt1.false c.if-argument-gt-MOST-DIGITS.false)
+    ∙ sym (as_said c.args.argument.now c.if-argument-lt1.false c.if-argument-gt-MOST_DIGITS.false)
 
 pub loop-digit-preserved : goal.loop-digit-preserved
 loop-digit-preserved c =
@@ -36,4 +36,4 @@ loop-digit-preserved c =
 pub returns : goal.returns
 returns c =
     sym (at_drop_all (number_on (Some c.loop-digit.number)) c.args.argument.now c.loop-digit.digit-index c.loop-digit-test.false)
-    ∙ (c.loop-digit.invariant ∙ sym (as_said c.args.argument.now c.if-argument-lt1.false c.if-argument-gt-MOST-DIGITS.false))
+    ∙ (c.loop-digit.invariant ∙ sym (as_said c.args.argument.now c.if-argument-lt1.false c.if-argument-gt-MOST_DIGITS.false))

@@ -20,11 +20,11 @@ returns-in-Ok c =
     let p : c.check.new.plan ≡ plan_of s (schema_of b).roots = c.check.ensures.plan ∙ planned_yes b s n c.empty_plan.result v in
     let e : lines ≡ root_lines s (schema_of b).roots = ap (λ (x : Plan). entry_lines x.roots) p ∙ plan_lines s (schema_of b).roots in
     let few : length c.check.new.plan.roots ≤ most_roots = search rules in
-    kept_whole _ _ (lines ++ total_line n) c.new-text.ensures (kept_then _ _ _ lines (total_line n) c.push-roots.ensures.pushed c.push-total.ensures.pushed)
-    (omega (arith, length-append lines (total_line n), c.push-roots.ensures.short, c.push-total.ensures.short))
+    kept_whole _ _ (lines ++ total_line n) c.new-text.ensures (kept_then _ _ _ lines (total_line n) c.push_roots.ensures.pushed c.push_total.ensures.pushed)
+    (omega (arith, length-append lines (total_line n), c.push_roots.ensures.short, c.push_total.ensures.short))
     ∙ (ap (λ l. l ++ total_line n) e ∙ sym (card_yes b s n v))
 
 pub returns-in-Err : goal.returns-in-Err
 returns-in-Err c =
-    kept_whole _ _ (refusal_line c.in-Err.refusal ++ line_end) c.new-text.ensures c.push-refusal.ensures.pushed (omega (arith, c.push-refusal.ensures.short))
+    kept_whole _ _ (refusal_line c.in-Err.refusal ++ line_end) c.new-text.ensures c.push_refusal.ensures.pushed (omega (arith, c.push_refusal.ensures.short))
     ∙ sym (card_no c.args.table.now c.args.scope c.in-Err.refusal (sym c.check.ensures.answer ∙ c.in-Err.is))

@@ -21,12 +21,12 @@ returns c =
     let e = entry_some c.args.root c.if-root-eq0.false in
     record {
       pushed =
-          kept_then _ _ _ (codes "root ") _ c.push-all.ensures
-          (kept_then _ _ _ (decimal r.event) _ (kept_number _ _ _ _ c.from.ensures c.push-decimal.ensures)
+          kept_then _ _ _ (codes "root ") _ c.push_all.ensures
+          (kept_then _ _ _ (decimal r.event) _ (kept_number _ _ _ _ c.from.ensures c.push_decimal.ensures)
           (kept_then _ _ _ (codes " ") _ c.push.ensures
-          (kept_then _ _ _ (decimal r.count) _ (kept_number _ _ _ _ c.from-2.ensures c.push-decimal-2.ensures)
+          (kept_then _ _ _ (decimal r.count) _ (kept_number _ _ _ _ c.from-2.ensures c.push_decimal-2.ensures)
           (kept_then _ _ _ (codes " ") _ c.push-2.ensures
-          (kept_then _ _ _ (decimal r.length) line_end (kept_number _ _ _ _ c.from-3.ensures c.push-decimal-3.ensures) c.push-3.ensures)))))
+          (kept_then _ _ _ (decimal r.length) line_end (kept_number _ _ _ _ c.from-3.ensures c.push_decimal-3.ensures) c.push-3.ensures)))))
           ∙ ap (λ l. kept (text_of c.args.text.now ++ l)) (sym e);
       short = subst (λ l. length l ≤ most_line) (sym e) (short_root r.event r.count r.length (omega arith) (omega arith) (omega arith));
     }

@@ -16,8 +16,8 @@ loop-root-preserved c =
     let done = entry_lines (take c.loop-root.root-index c.args.roots.now) in
     let line = entry_line (get_or c.args.roots.now c.loop-root.root-index no_root) in
     let e = entry_lines_more c.args.roots.now c.loop-root.root-index no_root (omega (arith, c.loop-root-test.true)) in (
-      kept_then _ _ _ done line c.loop-root.invariant.0 c.push-root.ensures.pushed ∙ ap (λ l. kept (text_of c.args.text.now ++ l)) (sym e),
-      omega (arith, ap length e, length-append done line, c.loop-root.invariant.1, c.push-root.ensures.short),
+      kept_then _ _ _ done line c.loop-root.invariant.0 c.push_root.ensures.pushed ∙ ap (λ l. kept (text_of c.args.text.now ++ l)) (sym e),
+      omega (arith, ap length e, length-append done line, c.loop-root.invariant.1, c.push_root.ensures.short),
     )
 
 pub returns : goal.returns

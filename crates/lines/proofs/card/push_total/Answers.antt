@@ -6,6 +6,6 @@ use Rattle.lines.proofs.card.push_total.Goals as goal
 
 pub returns : goal.returns
 returns c = record {
-  pushed = kept_then _ _ _ (codes "total ") _ c.push-all.ensures (kept_then _ _ _ (decimal c.args.total) line_end (kept_number _ _ _ _ c.from.ensures c.push-decimal.ensures) c.push.ensures);
+  pushed = kept_then _ _ _ (codes "total ") _ c.push_all.ensures (kept_then _ _ _ (decimal c.args.total) line_end (kept_number _ _ _ _ c.from.ensures c.push_decimal.ensures) c.push.ensures);
   short = short_total c.args.total (omega arith);
 }

@@ -12,11 +12,11 @@ returns-in-Ok c =
     let x = c.in-Ok.schema in
     let o = c.args.number in
     let h = c.in-Ok.ensures in
-    kept_whole _ _ (number_lines (table_of x) x.scope o) c.new-text.ensures c.push-number.ensures.pushed (omega (arith, c.push-number.ensures.short))
+    kept_whole _ _ (number_lines (table_of x) x.scope o) c.new-text.ensures c.push_number.ensures.pushed (omega (arith, c.push_number.ensures.short))
     ∙ (ap₂ (λ b s. number_lines b s o) h.holds.0 h.holds.1 ∙ sym (laid_yes c.args.table.now c.args.scope x.total o (sym h.answer)))
 
 pub returns-in-Err : goal.returns-in-Err
 returns-in-Err c =
     let r = c.in-Err.refusal in
-    kept_whole _ _ (refusal_line r ++ line_end) c.new-text.ensures c.push-refusal.ensures.pushed (omega (arith, c.push-refusal.ensures.short))
+    kept_whole _ _ (refusal_line r ++ line_end) c.new-text.ensures c.push_refusal.ensures.pushed (omega (arith, c.push_refusal.ensures.short))
     ∙ sym (laid_no c.args.table.now c.args.scope c.args.number r (sym c.in-Err.ensures.answer))

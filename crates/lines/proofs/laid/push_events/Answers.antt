@@ -18,8 +18,8 @@ loop-i-preserved c =
     let done = first_lines (shown l) i in
     let line = event_line (get_or l.types i 0) (get_or l.around i None) (value (get_or l.precedes i no_row)) in
     let e = shown_more l i c.loop-i-test.true in (
-      kept_then _ _ _ done line c.loop-i.invariant.0 c.push-event.ensures.pushed ∙ ap (λ x. kept (text_of c.args.text.now ++ x)) (sym e),
-      omega (arith, ap length e, length-append done line, c.loop-i.invariant.1, c.push-event.ensures.short),
+      kept_then _ _ _ done line c.loop-i.invariant.0 c.push_event.ensures.pushed ∙ ap (λ x. kept (text_of c.args.text.now ++ x)) (sym e),
+      omega (arith, ap length e, length-append done line, c.loop-i.invariant.1, c.push_event.ensures.short),
     )
 
 pub returns : goal.returns

@@ -9,4 +9,4 @@ pub loop-i-init : goal.loop-i-init
 loop-i-init c = sym (ap power_capped (pow-zero c.args.once))
 
 pub loop-i-preserved : goal.loop-i-preserved
-loop-i-preserved c = power_more c.args.once c.loop-i.-i _ _ c.loop-i.invariant c.times-capped-power.ensures
+loop-i-preserved c = power_more c.args.once c.loop-i._i _ _ c.loop-i.invariant c.times_capped-power.ensures

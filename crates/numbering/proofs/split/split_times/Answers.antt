@@ -11,13 +11,13 @@ found : (c least most n k r p : ℕ) → occurrences c (most - least) least n �
     → ◌≡◌ {A = Repeated} record { times = k; number = r; power = p } (times_at c least most n)
 found c least most n k r p e f = ap₂ (λ (w : ℕ × ℕ) (q : ℕ). record { times = w.0; number = w.1; power = q }) (sym e) (f ∙ ap (λ (w : ℕ × ℕ). power_capped (c ^ w.0)) (sym e))
 
-pub overflow-cast-rest : goal.overflow-cast-rest
-overflow-cast-rest c = omega arith
+pub overflow_cast-rest : goal.overflow_cast-rest
+overflow_cast-rest c = omega arith
 
 pub loop-times-preserved : goal.loop-times-preserved
 loop-times-preserved c = (
   c.loop-times.invariant.0 ∙ capped_passes c.args.once c.loop-times.times c.args.most c.loop-times.rest _ (omega arith) c.loop-times.invariant.1 (omega arith) (omega arith),
-  power_more c.args.once c.loop-times.times _ _ c.loop-times.invariant.1 c.times-capped-power.ensures,
+  power_more c.args.once c.loop-times.times _ _ c.loop-times.invariant.1 c.times_capped-power.ensures,
   omega arith,
 )
 

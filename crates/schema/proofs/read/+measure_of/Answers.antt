@@ -44,30 +44,30 @@ exact b s i q m k en o e f =
 earlier_ends : (b : List ℕ) (i : ℕ) (p q : Pattern) (k : ℕ) → Two b i p q → k ≡ size q → (i - 1 - k < i) × Ends b (i - 1 - k) × (pattern_at b (i - 1 - k) ≡ p)
 earlier_ends b i p q k u e = rw e (omega (arith, u.later.pos), u.ends, u.is)
 
-pub measure-of-requires : goal.measure-of-requires
-measure-of-requires t c =
+pub measure_of-requires : goal.measure_of-requires
+measure_of-requires t c =
     let u = event_of c.args.table.now c.args.i c.in-Event.field-0 c.requires.ends c.in-Event.ensures in
     (omega (arith, u.1.pos), (u.1.ends, c.requires.knows))
 
-pub measure-of-once-requires : goal.measure-of-once-requires
-measure-of-once-requires t c =
+pub measure_of-once-requires : goal.measure_of-once-requires
+measure_of-once-requires t c =
     let u = repeat_of c.args.table.now c.args.i c.in-Repeat.field-0 c.in-Repeat.least c.in-Repeat.most c.requires.ends c.in-Repeat.ensures in
     (omega (arith, u.1.pos), (u.1.ends, c.requires.knows))
 
-pub measure-of-later-requires : goal.measure-of-later-requires
-measure-of-later-requires t c =
-    let u = pair_of c.args.table.now c.args.i c.item-at-item.result c.requires.ends c.item-at-item.ensures c.in-Both.is in
+pub measure_of-later-requires : goal.measure_of-later-requires
+measure_of-later-requires t c =
+    let u = pair_of c.args.table.now c.args.i c.item_at-item.result c.requires.ends c.item_at-item.ensures c.in-Both.is in
     (omega (arith, u.at.later.pos), (u.at.later.ends, c.requires.knows))
 
-pub overflow-sub-i-in-Both-3 : goal.overflow-sub-i-in-Both-3
-overflow-sub-i-in-Both-3 t c =
-    let u = pair_of c.args.table.now c.args.i c.item-at-item.result c.requires.ends c.item-at-item.ensures c.in-Both.is in
-    omega (arith, u.at.room, exact c.args.table.now c.args.scope c.args.i u.q c.measure-of-later.result c.from.result c.requires.ends u.at.later c.measure-of-later.ensures c.from.ensures)
+pub overflow_sub-i-in-Both-3 : goal.overflow_sub-i-in-Both-3
+overflow_sub-i-in-Both-3 t c =
+    let u = pair_of c.args.table.now c.args.i c.item_at-item.result c.requires.ends c.item_at-item.ensures c.in-Both.is in
+    omega (arith, u.at.room, exact c.args.table.now c.args.scope c.args.i u.q c.measure_of-later.result c.from.result c.requires.ends u.at.later c.measure_of-later.ensures c.from.ensures)
 
-pub measure-of-earlier-requires : goal.measure-of-earlier-requires
-measure-of-earlier-requires t c =
-    let u = pair_of c.args.table.now c.args.i c.item-at-item.result c.requires.ends c.item-at-item.ensures c.in-Both.is in
-    let k = exact c.args.table.now c.args.scope c.args.i u.q c.measure-of-later.result c.from.result c.requires.ends u.at.later c.measure-of-later.ensures c.from.ensures in
+pub measure_of-earlier-requires : goal.measure_of-earlier-requires
+measure_of-earlier-requires t c =
+    let u = pair_of c.args.table.now c.args.i c.item_at-item.result c.requires.ends c.item_at-item.ensures c.in-Both.is in
+    let k = exact c.args.table.now c.args.scope c.args.i u.q c.measure_of-later.result c.from.result c.requires.ends u.at.later c.measure_of-later.ensures c.from.ensures in
     let v = earlier_ends c.args.table.now c.args.i u.p u.q c.from.result u.at k in
     (omega (arith, v.0), (v.1, c.requires.knows))
 
@@ -80,22 +80,22 @@ returns-in-Event t c =
 pub returns-in-Either : goal.returns-in-Either
 returns-in-Either t c =
     let s = c.args.scope in
-    let u = pair_of c.args.table.now c.args.i c.item-at-item.result c.requires.ends c.item-at-item.ensures c.in-Both.is in
-    let k = exact c.args.table.now c.args.scope c.args.i u.q c.measure-of-later.result c.from.result c.requires.ends u.at.later c.measure-of-later.ensures c.from.ensures in
+    let u = pair_of c.args.table.now c.args.i c.item_at-item.result c.requires.ends c.item_at-item.ensures c.in-Both.is in
+    let k = exact c.args.table.now c.args.scope c.args.i u.q c.measure_of-later.result c.from.result c.requires.ends u.at.later c.measure_of-later.ensures c.from.ensures in
     let v = earlier_ends c.args.table.now c.args.i u.p u.q c.from.result u.at k in
     c.either.ensures
-    ∙ (ap₂ either_measure (c.measure-of-earlier.ensures ∙ ap (measure_of s) v.2) (c.measure-of-later.ensures ∙ ap (measure_of s) u.at.later.is)
+    ∙ (ap₂ either_measure (c.measure_of-earlier.ensures ∙ ap (measure_of s) v.2) (c.measure_of-later.ensures ∙ ap (measure_of s) u.at.later.is)
     ∙ (either_measures s u.p u.q ∙ ap (measure_of s) (sym (u.either c.in-Either.is))))
 
-pub returns-in-default : goal.returns-in-default
-returns-in-default t c =
+pub returns-in_default : goal.returns-in_default
+returns-in_default t c =
     let s = c.args.scope in
-    let u = pair_of c.args.table.now c.args.i c.item-at-item.result c.requires.ends c.item-at-item.ensures c.in-Both.is in
-    let k = exact c.args.table.now c.args.scope c.args.i u.q c.measure-of-later.result c.from.result c.requires.ends u.at.later c.measure-of-later.ensures c.from.ensures in
+    let u = pair_of c.args.table.now c.args.i c.item_at-item.result c.requires.ends c.item_at-item.ensures c.in-Both.is in
+    let k = exact c.args.table.now c.args.scope c.args.i u.q c.measure_of-later.result c.from.result c.requires.ends u.at.later c.measure_of-later.ensures c.from.ensures in
     let v = earlier_ends c.args.table.now c.args.i u.p u.q c.from.result u.at k in
-    let o = u.both c.in-default.not-Either in
+    let o = u.both c.in_default.not-Either in
     c.both.ensures
-    ∙ (ap₂ both_measure (c.measure-of-earlier.ensures ∙ ap (measure_of s) v.2) (c.measure-of-later.ensures ∙ ap (measure_of s) u.at.later.is)
+    ∙ (ap₂ both_measure (c.measure_of-earlier.ensures ∙ ap (measure_of s) v.2) (c.measure_of-later.ensures ∙ ap (measure_of s) u.at.later.is)
     ∙ (both_measures s o.0 u.p u.q ∙ ap (measure_of s) (sym o.1)))
 
 pub returns-in-Repeat : goal.returns-in-Repeat
@@ -105,7 +105,7 @@ returns-in-Repeat t c =
     let y = c.in-Repeat.most in
     let u = repeat_of c.args.table.now c.args.i c.in-Repeat.field-0 x y c.requires.ends c.in-Repeat.ensures in
     c.repeat.ensures
-    ∙ (ap₂ (λ k m. repeat_measure x k m) c.most-of.ensures (c.measure-of-once.ensures ∙ ap (measure_of s) u.1.is)
+    ∙ (ap₂ (λ k m. repeat_measure x k m) c.most_of.ensures (c.measure_of-once.ensures ∙ ap (measure_of s) u.1.is)
     ∙ (repeat_measures s c.in-Repeat.field-0 x y u.0 ∙ ap (measure_of s) (sym u.2)))
 
 pub returns-then-i-known : goal.returns-then-i-known

@@ -1,4 +1,4 @@
 use Rattle.schema.proofs.read.+measure_of.Given as goal
 
-abbrev pub decreases-measure-of : goal.decreases-measure-of
-decreases-measure-of l = l.i
+abbrev pub decreases-measure_of : goal.decreases-measure_of
+decreases-measure_of l = l.i

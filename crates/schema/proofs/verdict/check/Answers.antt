@@ -17,10 +17,10 @@ returns-in-Ok c =
     let h = c.in-Ok.ensures.holds in
     let q = carried_plan (take c.in-Ok.checked.len c.in-Ok.checked.bytes) c.in-Ok.checked.scope c.in-Ok.checked.plan c.in-Ok.checked.planned in
     let p = q ∙ (ap₂ (λ x y. plan_of x (schema_of y).roots) h.1 h.0 ∙ sym (planned_yes c.args.table.now c.args.scope c.in-Ok.checked.total c.args.plan.now (sym a))) in
-    record { answer = a; plan = p; schema = tables_are_schemas c.args.table.now c.args.scope (bytes c.args.table.now c.type-inv.table) _ a c.args.plan.now _ p }
+    record { answer = a; plan = p; schema = tables_are_schemas c.args.table.now c.args.scope (bytes c.args.table.now c.type_inv.table) _ a c.args.plan.now _ p }
 
 pub returns-in-Err : goal.returns-in-Err
 returns-in-Err c =
     let v = sym c.in-Err.ensures.answer in
     let p = planned_no c.args.table.now c.args.scope c.args.plan.now c.in-Err.refusal v in
-    record { answer = sym v; plan = p; schema = tables_are_schemas c.args.table.now c.args.scope (bytes c.args.table.now c.type-inv.table) _ (sym v) c.args.plan.now _ p }
+    record { answer = sym v; plan = p; schema = tables_are_schemas c.args.table.now c.args.scope (bytes c.args.table.now c.type_inv.table) _ (sym v) c.args.plan.now _ p }

@@ -6,10 +6,10 @@ use Rattle.schema.specs.declared.plan.Plan.{Plan}
 use Rattle.schema.proofs.Carried.{checked_sound, past_plan}
 use Rattle.schema.proofs.checked.Checked.root.Goals as goal
 
-pub returns-then-k-lt-MOST-ROOTS : goal.returns-then-k-lt-MOST-ROOTS
-returns-then-k-lt-MOST-ROOTS c = ap (λ (p : Plan). get_or p.roots c.args.k no_root) (checked_sound c.args.self.now).plan
+pub returns-then-k-lt-MOST_ROOTS : goal.returns-then-k-lt-MOST_ROOTS
+returns-then-k-lt-MOST_ROOTS c = ap (λ (p : Plan). get_or p.roots c.args.k no_root) (checked_sound c.args.self.now).plan
 
-pub returns-else-k-lt-MOST-ROOTS : goal.returns-else-k-lt-MOST-ROOTS
-returns-else-k-lt-MOST-ROOTS c =
+pub returns-else-k-lt-MOST_ROOTS : goal.returns-else-k-lt-MOST_ROOTS
+returns-else-k-lt-MOST_ROOTS c =
     let z = checked_sound c.args.self.now in
-    sym (past_plan c.args.self.now.scope c.args.k (schema_of (table_of c.args.self.now)).roots z.within.roots_to c.if-k-lt-MOST-ROOTS.false)
+    sym (past_plan c.args.self.now.scope c.args.k (schema_of (table_of c.args.self.now)).roots z.within.roots_to c.if-k-lt-MOST_ROOTS.false)

@@ -45,19 +45,19 @@ empty b i it is (inr (inl h)) = sym (ap (λ x. made x (state b i).patterns) (sym
 empty b i it is (inr (inr (inl h))) = sym (ap (λ x. made x (state b i).patterns) (sym is ∙ h.1))
 empty b i it is (inr (inr (inr h))) = sym (ap (λ x. made x (state b i).patterns) (sym is ∙ h))
 
-pub overflow-sub-i : goal.overflow-sub-i
-overflow-sub-i c = omega (arith, (before c.args.table.now c.args.self.now.scope c.args.i c.in-Root.field-0 c.requires.passed c.in-Root.ensures c.requires.sized c.requires.within).0)
+pub overflow_sub-i : goal.overflow_sub-i
+overflow_sub-i c = omega (arith, (before c.args.table.now c.args.self.now.scope c.args.i c.in-Root.field-0 c.requires.passed c.in-Root.ensures c.requires.sized c.requires.within).0)
 
-pub measure-of-requires : goal.measure-of-requires
-measure-of-requires c = record {
+pub measure_of-requires : goal.measure_of-requires
+measure_of-requires c = record {
   ends = (before c.args.table.now c.args.self.now.scope c.args.i c.in-Root.field-0 c.requires.passed c.in-Root.ensures c.requires.sized c.requires.within).1;
   knows = c.requires.knows;
 }
 
-pub measure-of-requires-in-default : goal.measure-of-requires-in-default
-measure-of-requires-in-default c = record {
+pub measure_of-requires-in_default : goal.measure_of-requires-in_default
+measure_of-requires-in_default c = record {
   ends = pattern_ends c.args.table.now c.args.self.now.scope c.args.i c.item_at.result c.requires.passed c.item_at.ensures c.requires.sized c.requires.within
-      c.in-default.not-Root c.in-default.not-Pick c.in-default.not-Relate c.in-default.not-AtMost c.in-default.not-Unknown;
+      c.in_default.not-Root c.in_default.not-Pick c.in_default.not-Relate c.in_default.not-AtMost c.in_default.not-Unknown;
   knows = c.requires.knows;
 }
 
@@ -74,10 +74,10 @@ returns-in-Root c =
 pub returns-in-Pick : goal.returns-in-Pick
 returns-in-Pick c = c.nothing.ensures ∙ ap (measure_of c.args.self.now.scope) (empty c.args.table.now c.args.i c.item_at.result c.item_at.ensures c.in-Pick.is)
 
-pub returns-in-default : goal.returns-in-default
-returns-in-default c =
-    c.measure-of-in-default.ensures
+pub returns-in_default : goal.returns-in_default
+returns-in_default c =
+    c.measure_of-in_default.ensures
     ∙ ap (measure_of c.args.self.now.scope)
     (sym (made_ends c.args.table.now c.args.i
     (pattern_ends c.args.table.now c.args.self.now.scope c.args.i c.item_at.result c.requires.passed c.item_at.ensures c.requires.sized c.requires.within
-    c.in-default.not-Root c.in-default.not-Pick c.in-default.not-Relate c.in-default.not-AtMost c.in-default.not-Unknown)))
+    c.in_default.not-Root c.in_default.not-Pick c.in_default.not-Relate c.in_default.not-AtMost c.in_default.not-Unknown)))

@@ -8,18 +8,18 @@ use Rattle.items.specs.declared.item.Item.TheVariants.{Root, Pick, Unknown}
 use Rattle.schema.proofs.Steps.{suited_at, found_at, adds, changes, joins, two_wait, closes, picks, operates}
 use Rattle.schema.proofs.progress.Progress.settle.Goals as goal
 
-pub overflow-sub-self : goal.overflow-sub-self
-overflow-sub-self c = omega (arith, two_wait c.args.table.now c.args.i c.args.self.now c.requires.counted c.item_at.result c.item_at.ensures c.requires.passed c.in-Both.is)
+pub overflow_sub-self : goal.overflow_sub-self
+overflow_sub-self c = omega (arith, two_wait c.args.table.now c.args.i c.args.self.now c.requires.counted c.item_at.result c.item_at.ensures c.requires.passed c.in-Both.is)
 
-pub overflow-cast-root : goal.overflow-cast-root
-overflow-cast-root c = omega (arith, suited_at c.args.table.now c.args.self.now.scope c.args.i (Root c.in-Root.event) c.requires.passed c.in-Root.ensures)
+pub overflow_cast-root : goal.overflow_cast-root
+overflow_cast-root c = omega (arith, suited_at c.args.table.now c.args.self.now.scope c.args.i (Root c.in-Root.event) c.requires.passed c.in-Root.ensures)
 
 pub close-requires : goal.close-requires
 close-requires c =
     omega (arith, (found_at c.args.table.now c.args.self.now.scope c.args.i (Root c.in-Root.event) c.requires.passed c.in-Root.ensures).0, ap (λ (v : Tally). v.closed) c.requires.counted.tally, c.requires.sized.roots)
 
-pub overflow-add-self-in-Pick : goal.overflow-add-self-in-Pick
-overflow-add-self-in-Pick c =
+pub overflow_add-self-in-Pick : goal.overflow_add-self-in-Pick
+overflow_add-self-in-Pick c =
     omega (arith, (found_at c.args.table.now c.args.self.now.scope c.args.i (Pick c.in-Pick.x) c.requires.passed c.in-Pick.ensures).1, ap (λ (v : Tally). v.picks) c.requires.counted.tally)
 
 pub returns-in-Nothing : goal.returns-in-Nothing
@@ -56,7 +56,7 @@ returns-in-Root c =
     record {
       counted = closes c.args.table.now c.args.i c.args.self.now c.requires.counted t is c.requires.sized
           (found_at c.args.table.now c.args.self.now.scope c.args.i (Root t) c.requires.passed is) c.args.m e c.requires.measured.1.0 c.requires.measured.1.1 _
-          refl refl refl refl c.product-capped-self.ensures (ap (λ x. c.args.self.now.length + x) c.from.ensures) c.close.ensures;
+          refl refl refl refl c.product_capped-self.ensures (ap (λ x. c.args.self.now.length + x) c.from.ensures) c.close.ensures;
       scope = refl;
       known = refl;
     }

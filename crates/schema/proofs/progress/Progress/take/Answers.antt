@@ -28,45 +28,45 @@ module _ (b : List ℕ) (i : ℕ) (g : Progress) (c : Counted b i g) (r x : Opti
 
 pub returns-in-Some : goal.returns-in-Some
 returns-in-Some c =
-    let e = said_asked c.args.table.now c.args.i c.args.self.now c.requires.holds.counted _ _ c.in-Some.is c.item-at-item.result c.argument_at.result c.item-at-item.ensures c.argument_at.ensures c.ask-item.ensures in
+    let e = said_asked c.args.table.now c.args.i c.args.self.now c.requires.holds.counted _ _ c.in-Some.is c.item_at-item.result c.argument_at.result c.item_at-item.ensures c.argument_at.ensures c.ask_item.ensures in
     record {
       answer = sym (asks_asked c.args.table.now c.args.self.now.scope c.args.i c.in-Some.q e);
       scope = λ n. absurd (no_some c.in-Some.q n);
       goes = λ n. absurd (no_some c.in-Some.q n);
     }
 
-pub returns-in-Some-ask-sharing : goal.returns-in-Some-ask-sharing
-returns-in-Some-ask-sharing c =
-    let e = said_asked c.args.table.now c.args.i c.args.self.now c.requires.holds.counted _ _ c.in-default.is c.item-at-item.result c.argument_at.result c.item-at-item.ensures c.argument_at.ensures c.ask-item.ensures in
-    let f = said_shared c.args.table.now c.args.i c.args.self.now c.requires.holds.counted _ _ c.in-Some-ask-sharing.is c.item-at-item.result c.item-at-item.ensures c.ask-sharing.ensures in
+pub returns-in-Some-ask_sharing : goal.returns-in-Some-ask_sharing
+returns-in-Some-ask_sharing c =
+    let e = said_asked c.args.table.now c.args.i c.args.self.now c.requires.holds.counted _ _ c.in_default.is c.item_at-item.result c.argument_at.result c.item_at-item.ensures c.argument_at.ensures c.ask_item.ensures in
+    let f = said_shared c.args.table.now c.args.i c.args.self.now c.requires.holds.counted _ _ c.in-Some-ask_sharing.is c.item_at-item.result c.item_at-item.ensures c.ask_sharing.ensures in
     record {
-      answer = sym (asks_shared c.args.table.now c.args.self.now.scope c.args.i c.in-Some-ask-sharing.q e f);
-      scope = λ n. absurd (no_some c.in-Some-ask-sharing.q n);
-      goes = λ n. absurd (no_some c.in-Some-ask-sharing.q n);
+      answer = sym (asks_shared c.args.table.now c.args.self.now.scope c.args.i c.in-Some-ask_sharing.q e f);
+      scope = λ n. absurd (no_some c.in-Some-ask_sharing.q n);
+      goes = λ n. absurd (no_some c.in-Some-ask_sharing.q n);
     }
 
-pub measure-made-m-requires : goal.measure-made-m-requires
-measure-made-m-requires c = record {
+pub measure_made-m-requires : goal.measure_made-m-requires
+measure_made-m-requires c = record {
   sized = c.requires.sized;
   within = c.requires.within;
   knows = c.requires.holds.right;
-  passed = said_asked c.args.table.now c.args.i c.args.self.now c.requires.holds.counted _ _ c.in-default.is c.item-at-item.result c.argument_at.result c.item-at-item.ensures c.argument_at.ensures c.ask-item.ensures;
+  passed = said_asked c.args.table.now c.args.i c.args.self.now c.requires.holds.counted _ _ c.in_default.is c.item_at-item.result c.argument_at.result c.item_at-item.ensures c.argument_at.ensures c.ask_item.ensures;
 }
 
-pub returns-in-Some-ask-measure : goal.returns-in-Some-ask-measure
-returns-in-Some-ask-measure c =
-    let e = said_asked c.args.table.now c.args.i c.args.self.now c.requires.holds.counted _ _ c.in-default.is c.item-at-item.result c.argument_at.result c.item-at-item.ensures c.argument_at.ensures c.ask-item.ensures in
-    let f = said_shared c.args.table.now c.args.i c.args.self.now c.requires.holds.counted _ _ c.in-default-ask-sharing.is c.item-at-item.result c.item-at-item.ensures c.ask-sharing.ensures in
-    let h = said_sized c.args.table.now c.args.i c.args.self.now c.requires.holds.counted _ _ c.in-Some-ask-measure.is c.measure-made-m.result c.measure-made-m.ensures c.ask-measure.ensures in
+pub returns-in-Some-ask_measure : goal.returns-in-Some-ask_measure
+returns-in-Some-ask_measure c =
+    let e = said_asked c.args.table.now c.args.i c.args.self.now c.requires.holds.counted _ _ c.in_default.is c.item_at-item.result c.argument_at.result c.item_at-item.ensures c.argument_at.ensures c.ask_item.ensures in
+    let f = said_shared c.args.table.now c.args.i c.args.self.now c.requires.holds.counted _ _ c.in_default-ask_sharing.is c.item_at-item.result c.item_at-item.ensures c.ask_sharing.ensures in
+    let h = said_sized c.args.table.now c.args.i c.args.self.now c.requires.holds.counted _ _ c.in-Some-ask_measure.is c.measure_made-m.result c.measure_made-m.ensures c.ask_measure.ensures in
     record {
       answer = sym (asks_sized c.args.table.now c.args.self.now.scope c.args.i e f ∙ h);
-      scope = λ n. absurd (no_some c.in-Some-ask-measure.q n);
-      goes = λ n. absurd (no_some c.in-Some-ask-measure.q n);
+      scope = λ n. absurd (no_some c.in-Some-ask_measure.q n);
+      goes = λ n. absurd (no_some c.in-Some-ask_measure.q n);
     }
 
 pub settle-requires : goal.settle-requires
 settle-requires c =
-    let z = sized_none c.measure-made-m.result.count c.measure-made-m.result.length (sym c.ask-measure.ensures ∙ c.in-default-ask-measure.is) in
+    let z = sized_none c.measure_made-m.result.count c.measure_made-m.result.length (sym c.ask_measure.ensures ∙ c.in_default-ask_measure.is) in
     let k = c.requires.holds.counted in
     record {
       sized = c.requires.sized;
@@ -84,18 +84,18 @@ settle-requires c =
         place = k.place;
         over = k.over;
       };
-      passed = said_asked c.args.table.now c.args.i c.args.self.now c.requires.holds.counted _ _ c.in-default.is c.item-at-item.result c.argument_at.result c.item-at-item.ensures c.argument_at.ensures c.ask-item.ensures;
-      measured = (c.measure-made-m.ensures, (z.0, z.1));
+      passed = said_asked c.args.table.now c.args.i c.args.self.now c.requires.holds.counted _ _ c.in_default.is c.item_at-item.result c.argument_at.result c.item_at-item.ensures c.argument_at.ensures c.ask_item.ensures;
+      measured = (c.measure_made-m.ensures, (z.0, z.1));
     }
 
 pub returns : goal.returns
 returns c =
     let s = c.args.self.now.scope in
-    let e = said_asked c.args.table.now c.args.i c.args.self.now c.requires.holds.counted _ _ c.in-default.is c.item-at-item.result c.argument_at.result c.item-at-item.ensures c.argument_at.ensures c.ask-item.ensures in
-    let f = said_shared c.args.table.now c.args.i c.args.self.now c.requires.holds.counted _ _ c.in-default-ask-sharing.is c.item-at-item.result c.item-at-item.ensures c.ask-sharing.ensures in
-    let h = said_sized c.args.table.now c.args.i c.args.self.now c.requires.holds.counted _ _ c.in-default-ask-measure.is c.measure-made-m.result c.measure-made-m.ensures c.ask-measure.ensures in
-    let kn = known-push c.args.table.now s c.args.i c.args.self.now.known c.push.new.self c.measure-made-m.result c.requires.holds.right c.requires.holds.known
-    (omega (arith, c.requires.sized.items, c.requires.within)) c.push.ensures.room c.measure-made-m.ensures c.push.ensures.len c.push.ensures.measures in
+    let e = said_asked c.args.table.now c.args.i c.args.self.now c.requires.holds.counted _ _ c.in_default.is c.item_at-item.result c.argument_at.result c.item_at-item.ensures c.argument_at.ensures c.ask_item.ensures in
+    let f = said_shared c.args.table.now c.args.i c.args.self.now c.requires.holds.counted _ _ c.in_default-ask_sharing.is c.item_at-item.result c.item_at-item.ensures c.ask_sharing.ensures in
+    let h = said_sized c.args.table.now c.args.i c.args.self.now c.requires.holds.counted _ _ c.in_default-ask_measure.is c.measure_made-m.result c.measure_made-m.ensures c.ask_measure.ensures in
+    let kn = known-push c.args.table.now s c.args.i c.args.self.now.known c.push.new.self c.measure_made-m.result c.requires.holds.right c.requires.holds.known
+    (omega (arith, c.requires.sized.items, c.requires.within)) c.push.ensures.room c.measure_made-m.ensures c.push.ensures.len c.push.ensures.measures in
     record {
       answer = sym (asks_sized c.args.table.now c.args.self.now.scope c.args.i e f ∙ h);
       scope = λ _. c.settle.ensures.scope;

@@ -9,7 +9,7 @@ use Rattle.text.proofs.sheet.Text.+push_decimal.Goals.{then-n-ge10, else-n-ge10}
 pub returns : goal.returns
 returns t c = elim c.if-n-ge10.branch [
   | then-n-ge10 w ↦
-      kept_then (text_of c.args.self.now) (text_of c.if-n-ge10.self) _ (decimal (c.args.n / 10)) ((48 + c.args.n % 10) ∷ []) (ap text_of w.self-is ∙ w.push-decimal.ensures) c.push.ensures
+      kept_then (text_of c.args.self.now) (text_of c.if-n-ge10.self) _ (decimal (c.args.n / 10)) ((48 + c.args.n % 10) ∷ []) (ap text_of w.self-is ∙ w.push_decimal.ensures) c.push.ensures
       ∙ ap (λ l. kept (text_of c.args.self.now ++ l)) (sym (decimal_step c.args.n w.if-n-ge10.true (omega arith)))
   | else-n-ge10 w ↦
       let e : c.args.n % 10 ≡ c.args.n = omega (arith, w.if-n-ge10.false) in
