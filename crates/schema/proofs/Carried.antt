@@ -52,14 +52,13 @@ ready b s i g h sc v e n =
 
 -- What is carried.
 
-pub carried : (b c : List ℕ) (g : Progress) → c ≡ b → Ready b g → Accepts c g.scope g.total × (PlansRoots c g.scope g.plan × ((g.known.len ≡ item_count c) × (MeasuresAll c g.scope g.known × Unit {0})))
+pub carried : (b c : List ℕ) (g : Progress) → c ≡ b → Ready b g → Accepts c g.scope g.total × PlansRoots c g.scope g.plan × (g.known.len ≡ item_count c) × MeasuresAll c g.scope g.known
 carried b c g e r =
-    subst (λ x. Accepts x g.scope g.total × (PlansRoots x g.scope g.plan × ((g.known.len ≡ item_count x) × (MeasuresAll x g.scope g.known × Unit {0})))) (sym e) (
+    subst (λ x. Accepts x g.scope g.total × PlansRoots x g.scope g.plan × (g.known.len ≡ item_count x) × MeasuresAll x g.scope g.known) (sym e) (
       ap total_in r.accepted,
-      (
-        ap (λ (p : Plan). numbers_of_roots p.roots) r.plan,
-        (r.all, (λ j lt. ap numbers_of_measure (r.right.right j lt), tt)),
-      ),
+      ap (λ (p : Plan). numbers_of_roots p.roots) r.plan,
+      r.all,
+      λ j lt. ap numbers_of_measure (r.right.right j lt),
     )
 
 -- And what follows again.

@@ -1,5 +1,5 @@
-use Rattle.std.proofs.Common.{◌≡◌, ℕ, ◌-◌, ◌<◌, List, length, get_or, take, Some, None, Ok, sym, ap, ◌∙◌, ap₂, add-one, arith, w8, Fits}
-use Rattle.questions.specs.Limits.{no_item}
+use Rattle.std.proofs.Common.{◌≡◌, ℕ, ◌-◌, ◌<◌, ◌≤◌, List, length, get_or, take, Some, None, Ok, sym, ap, ◌∙◌, ap₂, add-one, arith, w8, Fits}
+use Rattle.questions.specs.Limits.{no_item, most_bytes}
 use Rattle.grammar.specs.Schema.{candidates}
 use Rattle.schema.specs.Bytes.{item_count}
 use Rattle.schema.specs.Reading.{state, schema_of}
@@ -66,14 +66,18 @@ pub invariant_of-result : goal.invariant_of-result
 invariant_of-result c =
     let b = c.args.table.now in
     let e : c.loop-i.i ≡ item_count b = omega (arith, c.loop-i-test.false, c.loop-i.auto.i-end, c.from-n.ensures, c.word_at.ensures) in
-    let o = opened c.args.table.now c.args.scope (sym c.ask_opening.ensures ∙ c.in_default.is) in (
-      omega (arith, o.bytes, o.items_to),
-      (
-        λ i. (let f = c.type_inv.table i in omega (arith, ap (λ l. get_or l i 0) (c.bytes_of-bytes.ensures (omega (arith, o.bytes, o.items_to))))),
-        carried c.args.table.now (take (length c.args.table.now) c.bytes_of-bytes.result) c.loop-i.progress (c.bytes_of-bytes.ensures (omega (arith, o.bytes, o.items_to)))
-            (ready c.args.table.now c.args.scope c.loop-i.i c.loop-i.progress c.loop-i.invariant.0 c.loop-i.invariant.1 c.loop-i.invariant.2 e (sym c.ask_whole.ensures ∙ c.in_default-ask_whole.is)),
-      ),
-    )
+    let o = opened c.args.table.now c.args.scope (sym c.ask_opening.ensures ∙ c.in_default.is) in
+    let few : length b ≤ most_bytes = omega (arith, o.bytes, o.items_to) in
+    let q = carried b (take (length b) c.bytes_of-bytes.result) c.loop-i.progress (c.bytes_of-bytes.ensures few)
+    (ready b c.args.scope c.loop-i.i c.loop-i.progress c.loop-i.invariant.0 c.loop-i.invariant.1 c.loop-i.invariant.2 e (sym c.ask_whole.ensures ∙ c.in_default-ask_whole.is)) in
+    record {
+      short = few;
+      octets = λ i. (let f = c.type_inv.table i in omega (arith, ap (λ l. get_or l i 0) (c.bytes_of-bytes.ensures few)));
+      accepted = q.0;
+      planned = q.1;
+      all = q.2;
+      measured = q.3;
+    }
 
 pub returns : goal.returns
 returns c =
