@@ -68,7 +68,7 @@ lay_pattern-lay_pattern-requires-in-Later t c =
 pub lay_pattern-lay_run-requires : goal.lay_pattern-lay_run-requires
 lay_pattern-lay_run-requires t c =
     let u = many_of (table_of c.args.schema.now) c.args.schema.now.scope c.args.i c.args.number c.in-Repeat.least c.in-Repeat.most c.most_of.result c.in-Repeat.order c.measure-once.result c.split_times-left.result (checked_sound c.args.schema.now).within.scope_to c.requires.layable c.in-Repeat.ensures c.measure-once.ensures (c.most_of.ensures ∙ ap (λ x. most x c.in-Repeat.most) c.scope.ensures) c.split_times-left.ensures in
-    (omega (arith, u.pos, u.few), (u.ends, (u.fits, (u.once, (u.power, (u.below, (u.small, (u.few, omega (arith, u.long, c.requires.room)))))))))
+    (omega (arith, u.pos, u.few), (u.ends, (u.fits, (u.once, ((u.power, (u.below, u.small)), (u.few, omega (arith, u.long, c.requires.room)))))))
 
 pub lay_pattern-returns-in-Nothing : goal.lay_pattern-returns-in-Nothing
 lay_pattern-returns-in-Nothing t c =
@@ -164,7 +164,7 @@ lay_run-lay_pattern-first-requires t c =
 pub lay_run-lay_run-second-requires : goal.lay_run-lay_run-second-requires
 lay_run-lay_run-second-requires t c =
     let u = first_of c.from.result c.args.run.left.times c.args.run.left.power c.args.run.left.number (c.requires.power.0 ∙ ap (λ x. x ^ c.args.run.left.times) (sym c.from.ensures)) c.requires.power.1.0 (not_none c.args.run.left.times c.if-run-eq0.false) in
-    (omega (arith, not_none c.args.run.left.times c.if-run-eq0.false), (c.requires.ends, (c.requires.fits, (c.requires.once, (c.from-2.ensures ∙ (u.rest ∙ ap (λ x. x ^ (c.args.run.left.times - 1)) c.from.ensures), (omega (arith, u.left, c.split_pair-n.ensures.later, c.from-2.ensures), (omega (arith, u.less, c.requires.power.1.1, c.from-2.ensures), (omega (arith, c.requires.room.0), omega (arith, times_long c.args.run.left.times (len c.args.schema.now.scope (pattern_at (table_of c.args.schema.now) c.args.i)) (not_none c.args.run.left.times c.if-run-eq0.false), c.requires.room.1, c.lay_pattern-first.ensures.length)))))))))
+    (omega (arith, not_none c.args.run.left.times c.if-run-eq0.false), (c.requires.ends, (c.requires.fits, (c.requires.once, ((c.from-2.ensures ∙ (u.rest ∙ ap (λ x. x ^ (c.args.run.left.times - 1)) c.from.ensures), (omega (arith, u.left, c.split_pair-n.ensures.later, c.from-2.ensures), omega (arith, u.less, c.requires.power.1.1, c.from-2.ensures))), (omega (arith, c.requires.room.0), omega (arith, times_long c.args.run.left.times (len c.args.schema.now.scope (pattern_at (table_of c.args.schema.now) c.args.i)) (not_none c.args.run.left.times c.if-run-eq0.false), c.requires.room.1, c.lay_pattern-first.ensures.length)))))))
 
 pub lay_run-order-requires : goal.lay_run-order-requires
 lay_run-order-requires t c =
