@@ -1,5 +1,7 @@
 //! Calls for programs in Rust or C, such as the benchmark: numbers and byte slices only.
 
+#![tactic(auto)]
+
 ghost use Rattle.std.specs.Prelude.{◌≡◌, ◌-◌, ◌≤◌};
 ghost use Rattle.bridge.specs.Laid.{events_at, events_from, told_events};
 ghost use Rattle.bridge.specs.Packed.{packed};

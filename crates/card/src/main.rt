@@ -1,8 +1,10 @@
 //! Reads a schema table from standard input and prints its card: `root TYPE COUNT LENGTH` for each root and `total N`, or
 //! `no QUESTION ITEM`. The scope is its argument, 2 where there is none.
 
+#![tactic(auto)]
+
 use anyhow::anyhow;
-use lines::{card_text, scope_said};
+use lines::{card_of, scope_said};
 use std::env;
 use std::io::Read;
 
@@ -22,8 +24,7 @@ fn run(rt: &HostRuntime) -> anyhow::Result<()> {
     let scope = scope_of(rt)?;
     let mut table = Vec::new(rt.alloc());
     rt.stdin().read_to_end(&mut table)?;
-    let text = card_text(table.as_slice(), scope);
-    rt.write_all(text.as_bytes())?;
+    rt.print(card_of(rt.alloc(), table.as_slice(), scope)?)?;
     Ok(())
 }
 

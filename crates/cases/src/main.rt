@@ -1,8 +1,10 @@
 //! Runs the table check over many tables. Each line of standard input is a case: a name, a scope and the bytes of a table, in decimal.
 //! Each is answered by its name and then the card of the table.
 
+#![tactic(auto)]
+
 use anyhow::anyhow;
-use lines::card_text;
+use lines::card_of;
 
 /// Answers one line.
 fn answer(rt: &HostRuntime, line: &str) -> anyhow::Result<()> {
@@ -16,8 +18,7 @@ fn answer(rt: &HostRuntime, line: &str) -> anyhow::Result<()> {
         table.push(word.parse::<u8>()?)?;
     }
     println!(rt; "{name}")?;
-    let text = card_text(table.as_slice(), scope);
-    rt.write_all(text.as_bytes())?;
+    rt.print(card_of(rt.alloc(), table.as_slice(), scope)?)?;
     Ok(())
 }
 

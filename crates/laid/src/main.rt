@@ -1,6 +1,8 @@
 //! Reads a schema table from standard input and prints the events that a candidate lays: `TYPE AROUND PRECEDES` for each event, `none`
 //! where there is no such candidate, or `no QUESTION ITEM`. The scope and the number of the candidate are its arguments.
 
+#![tactic(auto)]
+
 use anyhow::anyhow;
 use lines::{laid_text, number_said, scope_said};
 use std::env;

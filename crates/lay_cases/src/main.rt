@@ -1,6 +1,8 @@
 //! Lays candidates of many tables. Each line of standard input is a case: a name, a scope, a number and the bytes of a table, in decimal.
 //! Each is answered by its name and then the lines of what the candidate lays.
 
+#![tactic(auto)]
+
 use anyhow::anyhow;
 use lines::{laid_text, number_said};
 

@@ -3,6 +3,8 @@
 //! `lay` gives exactly what specs/Laying.antt computes from the candidate's choices, for every checked table, number and number of roots;
 //! specs/Promises.antt says what that means in the words of events.
 
+#![tactic(auto)]
+
 mod candidate;
 mod events;
 pub mod laid;

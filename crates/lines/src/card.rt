@@ -1,63 +1,45 @@
 //! The card of a table: a line for each root and one for the total, or the refusal.
 
-ghost use Rattle.std.specs.Prelude.{◌≡◌, ◌*◌, ◌≤◌, ◌++◌, length};
-ghost use Rattle.text.specs.Room.{kept};
-ghost use Rattle.text.specs.Text.{text_of};
-ghost use Rattle.lines.specs.Card.{most_line, entry_line, entry_lines, total_line, card};
+ghost use Rattle.std.specs.Prelude.{◌≡◌, ◌++◌, IfOk, string_bytes, OnOk};
+ghost use Rattle.lines.specs.Card.{entry_line, entry_lines, total_line, card};
 
-use crate::refused::push_refusal;
 use schema::{Plan, Root, check};
-use text::Text;
+use std::alloc::{AllocError, Global};
 
 /// Adds the line of an entry of the plan, where it is a root.
-fn push_root(text: &mut Text, root: Root)
-    ensures pushed { text_of text.new ≡ kept (text_of text.old ++ entry_line root) }
-    ensures short { length (entry_line root) ≤ most_line }
+fn push_root(heap: Global, text: &mut String, root: Root) -> Result<(), AllocError>
+    ensures { OnOk result (string_bytes text.new ≡ string_bytes text.old ++ entry_line root) }
 {
     if root.length == 0 {
-        return;
+        return Ok(());
     }
-    text.push_all(b"root ");
-    text.push_decimal(u64::from(root.event));
-    text.push(b' ');
-    text.push_decimal(u64::from(root.count));
-    text.push(b' ');
-    text.push_decimal(u64::from(root.length));
-    text.push(b'\n');
+    let event = root.event;
+    let count = root.count;
+    let length = root.length;
+    let line = format!(in heap; "root {event} {count} {length}\n")?;
+    text.push_str(line.as_str())
 }
 
-/// Adds the line of the total.
-fn push_total(text: &mut Text, total: u32)
-    ensures pushed { text_of text.new ≡ kept (text_of text.old ++ total_line total) }
-    ensures short { length (total_line total) ≤ most_line }
+/// The lines of a plan's entries, and the total.
+fn accepted(heap: Global, roots: &[Root], total: u32) -> Result<String, AllocError>
+    ensures { IfOk result (λ t. string_bytes t ≡ entry_lines roots.now ++ total_line total) }
 {
-    text.push_all(b"total ");
-    text.push_decimal(u64::from(total));
-    text.push(b'\n');
-}
-
-/// Adds the lines of a plan's entries.
-fn push_roots(text: &mut Text, roots: &[Root])
-    ensures pushed { text_of text.new ≡ kept (text_of text.old ++ entry_lines roots.now) }
-    ensures short { length (entry_lines roots.now) ≤ most_line * length roots.now }
-{
+    let mut text = String::new(heap);
     for root in roots {
-        push_root(text, *root);
+        push_root(heap, &mut text, *root)?;
     }
+    let line = format!(in heap; "total {total}\n")?;
+    text.push_str(line.as_str())?;
+    Ok(text)
 }
 
-/// The card of a table at a scope.
-pub fn card_text(table: &[u8], scope: u8) -> Text
-    ensures { text_of result ≡ card table.now scope }
+/// The card of a table at a scope. An `Err` says that memory failed, and nothing of the table.
+pub fn card_of(heap: Global, table: &[u8], scope: u8) -> Result<String, AllocError>
+    ensures { IfOk result (λ t. string_bytes t ≡ card table.now scope) }
 {
-    let mut text = Text::new();
     let mut plan = Plan::empty();
     match check(table, scope, &mut plan) {
-        Ok(total) => {
-            push_roots(&mut text, &plan.roots);
-            push_total(&mut text, total);
-        }
-        Err(refusal) => push_refusal(&mut text, refusal),
+        Ok(total) => accepted(heap, &plan.roots, total),
+        Err(refusal) => format!(in heap; "{refusal}\n"),
     }
-    text
 }

@@ -1,10 +1,14 @@
 //! The text that the programs print, and what they read of their arguments.
 
+#![tactic(auto)]
+
 mod argument;
 mod card;
+mod fixed_card;
 mod laid;
 mod refused;
 
 pub use argument::{number_said, scope_said};
-pub use card::card_text;
+pub use card::card_of;
+pub use fixed_card::card_text;
 pub use laid::laid_text;

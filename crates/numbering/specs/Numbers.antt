@@ -3,7 +3,7 @@ use Rattle.std.specs.Prelude.{ℕ, zero, suc, ◌+◌, ◌-◌, ◌*◌, ◌/◌
 use Rattle.grammar.specs.Pattern.{Pattern, nothing, atom, event, both, either, repeat, most, powers, count}
 use Rattle.grammar.specs.Schema.{Rooted, candidates}
 use Rattle.grammar.specs.declared.part.Order.{Order}
-use Rattle.numbering.specs.Choice.{Choice, empty, node, pair, took, Side, earlier, later}
+use Rattle.numbering.specs.Choice.{Choice, empty, node, pair, took, earlier, later}
 use Rattle.numbering.specs.Allows.{root_pattern}
 
 -- From number to choice.

@@ -2,6 +2,8 @@
 //! specs/Allows.antt says which choices are allowed, specs/Numbers.antt what number is which choice, specs/Promises.antt that they
 //! correspond. The calls take a number apart, one pattern at a time.
 
+#![tactic(auto)]
+
 pub mod split;
 
 pub use split::{Repeated, Taken, split_pair, split_side, split_times};

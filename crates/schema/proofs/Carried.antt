@@ -1,7 +1,8 @@
 -- What a check knows at its end, what a checked table carries of it, and what follows again.
-use Rattle.std.proofs.Common.{◌≡◌, ℕ, suc, ◌+◌, ◌-◌, ◌<◌, ◌≤◌, List, [], ◌∷◌, ◌++◌, length, get_or, replicate, None, Ok, Err, Result, sym, refl, ap, ◌∙◌, subst, ap₂, arith, length-append}
+use Rattle.std.proofs.Common.{◌≡◌, ℕ, suc, ◌+◌, ◌-◌, ◌<◌, ◌≤◌, List, [], ◌∷◌, ◌++◌, length, get_or, replicate, Some, None, Ok, Err, Result, sym, refl, ap, ◌∙◌, subst, ap₂, arith, length-append}
 use Rattle.std.proofs.lemmas.List.{get_or_append_left, get_or_past, length-replicate}
 use Rattle.questions.specs.Limits.{no_item, most_roots}
+use Rattle.questions.specs.declared.question.Question.{Question}
 use Rattle.questions.specs.declared.refusal.Refusal.{Refusal}
 use Rattle.grammar.specs.Pattern.{size}
 use Rattle.grammar.specs.Schema.{Rooted, Schema, candidates, events}
@@ -12,7 +13,7 @@ use Rattle.schema.specs.Bytes.{item_count, root_count}
 use Rattle.schema.specs.Reading.{state, tally_at, schema_of}
 use Rattle.schema.specs.Plans.{no_root, entries, plan_of}
 use Rattle.schema.specs.Questions.{closing_at, answered, from, verdict}
-use Rattle.schema.specs.Progress.{Sized, Ends, Knows, no_measure, Holds}
+use Rattle.schema.specs.Progress.{Sized, Ends, KnowsMade, no_measure, Holds, Taken}
 use Rattle.schema.specs.Sound.{Planned, Sound, no_rooted, total_in, Accepts, numbers_of_root, numbers_of_roots, PlansRoots, numbers_of_measure, MeasuresAll}
 use Rattle.schema.specs.Told.{table_of}
 use Rattle.schema.specs.Writing.{roots_written, operations_written}
@@ -25,7 +26,7 @@ use Rattle.schema.proofs.Advance.{between}
 use Rattle.schema.proofs.Coding.{Bytes}
 use Rattle.schema.proofs.Planned.{planned_from}
 use Rattle.schema.proofs.Tables.{accepted_passes, passes_writes, passes_accepted, all_items}
-use Rattle.schema.proofs.Verdicts.{from_last, closing_is, ended, opened_sized}
+use Rattle.schema.proofs.Verdicts.{from_end, closing_is, ended, opened_sized}
 
 -- From the end of a check.
 
@@ -33,22 +34,28 @@ pub record Ready (b : List ℕ) (g : Progress) : Type 0 where
   pub accepted : verdict b g.scope ≡ Ok g.total
   pub plan : g.plan ≡ plan_of g.scope (schema_of b).roots
   pub all : g.known.len ≡ item_count b
-  pub right : Knows b g.scope g.known
+  pub right : KnowsMade b g.scope g.known
 
-pub ready : (b : List ℕ) (s i : ℕ) (g : Progress) → Holds b i g → g.scope ≡ s → verdict b s ≡ from b s i (item_count b - i) → i ≡ item_count b
-    → closing g.tally g.total g.length ≡ None → Ready b g
-ready b s i g h sc v e n =
+pub ready : (b : List ℕ) (s : ℕ) (g : Progress) → Taken b s g → closing g.tally g.total g.length ≡ None → Ready b g
+ready b s g h n =
+    let i = item_count b in
     let d = ended g.tally g.total g.length n in
-    let c = h.counted in
-    let k : closing_at b s ≡ None = ap (closing_at b) (sym sc) ∙ (sym (closing_is b i g h.counted e) ∙ n) in
+    let c = h.holds.counted in
+    let k : closing_at b s ≡ None = ap (closing_at b) (sym h.scope) ∙ (sym (closing_is b i g c refl) ∙ n) in
     let t : g.total ≡ candidates g.scope (state b i).roots = omega (arith, d.total, c.total) in
-    let t2 : g.total ≡ candidates s (schema_of b).roots = t ∙ ap₂ (λ x j. candidates x (state b j).roots) sc e in
+    let t2 : g.total ≡ candidates s (schema_of b).roots = t ∙ ap (λ x. candidates x (state b i).roots) h.scope in
     record {
-      accepted = ap (verdict b) sc ∙ (v ∙ (from_last b s i e ∙ (ap (λ o. answered o no_item (Ok (candidates s (schema_of b).roots))) k ∙ ap Ok (sym t2))));
-      plan = c.plan ∙ ap (λ j. plan_of g.scope (state b j).roots) e;
-      all = h.known ∙ e;
-      right = h.right;
+      accepted = ap (verdict b) h.scope ∙ (h.left ∙ (from_end b s ∙ (ap (λ o. answered o no_item (Ok (candidates s (schema_of b).roots))) k ∙ ap Ok (sym t2))));
+      plan = c.plan;
+      all = h.holds.known;
+      right = h.made;
     }
+
+-- a question of the whole fails
+pub whole_no : (b : List ℕ) (s : ℕ) (g : Progress) (q : Question) → Taken b s g → closing g.tally g.total g.length ≡ Some q → verdict b s ≡ Err (record { question = q; item = no_item })
+whole_no b s g q h n =
+    let k : closing_at b s ≡ Some q = ap (closing_at b) (sym h.scope) ∙ (sym (closing_is b (item_count b) g h.holds.counted refl) ∙ n) in
+    h.left ∙ (from_end b s ∙ ap (λ o. answered o no_item (Ok (candidates s (schema_of b).roots))) k)
 
 -- What is carried.
 

@@ -16,7 +16,7 @@ use Rattle.schema.specs.Bytes.{item_count, root_count, argument_at, item_at}
 use Rattle.schema.specs.Reading.{state, tally_at, pattern_at, schema_of}
 use Rattle.schema.specs.Plans.{plan_of}
 use Rattle.schema.specs.Questions.{asked_at, shared, shared_at, sized_at, made_at, asks, first_no, bytes_fit, sizes_fit, opening, closing_at, answered, from, verdict, replaced, planned}
-use Rattle.schema.specs.Progress.{Sized, Ends, Knows, no_measure, Counted}
+use Rattle.schema.specs.Progress.{Sized, Ends, Knows, KnowsMade, no_measure, Counted}
 use Rattle.schema.specs.declared.known.Known.{Known}
 use Rattle.schema.specs.declared.plan.Plan.{Plan}
 use Rattle.schema.specs.declared.progress.Progress.{Progress}
@@ -73,6 +73,20 @@ asks_sized b s i e f = ap₂ (λ o u. first_no o (first_no u (sized_at b s i))) 
 pub known-push : (b : List ℕ) (s i : ℕ) (k l : Known) (m : Measure) → Knows b s k → k.len ≡ i → i < most_items → length k.measures ≡ most_items
     → m ≡ measure_of s (made_at b i) → l.len ≡ k.len + 1 → l.measures ≡ set k.measures k.len m → Knows b s l
 known-push b s i k l m kn e lt n me le lm =
+    record { few = omega arith; right = λ j h en. rw lm (go j (cases_lt j k.len) h en) }
+  where
+    go : (j : ℕ) → (j < k.len) ⊎ (k.len ≤ j) → j < l.len → Ends b j → get_or (set k.measures k.len m) j no_measure ≡ measure_of s (pattern_at b j)
+    go j (inl h) _ en = let ne : j ≢ k.len = omega arith in rw get_or-set_other (kn.right j h en)
+    go j (inr h) u en =
+        let f : j ≡ k.len = omega arith in
+        let a : k.len < length k.measures = omega arith in
+        ap (λ x. get_or (set k.measures k.len m) x no_measure) f
+        ∙ (get_or-set_same k.measures k.len m no_measure a ∙ (me ∙ ap (measure_of s) (ap (made_at b) (sym (f ∙ e)) ∙ made_ends b j en)))
+
+-- and of what each item makes
+pub made-push : (b : List ℕ) (s i : ℕ) (k l : Known) (m : Measure) → KnowsMade b s k → k.len ≡ i → i < most_items → length k.measures ≡ most_items
+    → m ≡ measure_of s (made_at b i) → l.len ≡ k.len + 1 → l.measures ≡ set k.measures k.len m → KnowsMade b s l
+made-push b s i k l m kn e lt n me le lm =
     record { few = omega arith; right = λ j h. rw lm (go j (cases_lt j k.len) h) }
   where
     go : (j : ℕ) → (j < k.len) ⊎ (k.len ≤ j) → j < l.len → get_or (set k.measures k.len m) j no_measure ≡ measure_of s (made_at b j)
@@ -145,9 +159,9 @@ unfolding from
 from_more b s i n h e = ap (from b s i) (left_more n i h) ∙ ap (λ o. answered o i (from b s (suc i) (n - suc i))) e
 
 -- the verdict where all items passed
-pub from_last : (b : List ℕ) (s i : ℕ) → i ≡ item_count b → from b s i (item_count b - i) ≡ answered (closing_at b s) no_item (Ok (candidates s (schema_of b).roots))
+pub from_end : (b : List ℕ) (s : ℕ) → from b s (item_count b) 0 ≡ answered (closing_at b s) no_item (Ok (candidates s (schema_of b).roots))
 unfolding from
-from_last b s i e = ap (from b s i) {x = item_count b - i} {y = 0} (omega arith)
+from_end b s = refl
 
 pub planned_no : (b : List ℕ) (s : ℕ) (old : Plan) (e : Refusal) → verdict b s ≡ Err e → old ≡ planned b s old
 unfolding planned

@@ -1,13 +1,13 @@
 -- What the check's own functions ask and keep: what is known after i items. Assumes nothing.
-use Rattle.std.specs.Prelude.{◌≡◌, ℕ, suc, ◌+◌, ◌*◌, ◌<◌, ◌≤◌, List, [], ◌∷◌, length, slice_index_or}
+use Rattle.std.specs.Prelude.{◌≡◌, ℕ, suc, ◌+◌, ◌*◌, ◌<◌, ◌≤◌, List, [], ◌∷◌, length, None, slice_index_or}
 use Rattle.questions.specs.Limits.{most_items, most_roots, most_events}
 use Rattle.grammar.specs.Pattern.{Pattern, size}
 use Rattle.grammar.specs.Schema.{Rooted, candidates, events}
 use Rattle.grammar.specs.Measures.{measure_of, count_capped}
 use Rattle.grammar.specs.declared.measure.Measure.{Measure}
 use Rattle.schema.specs.Bytes.{item_count, root_count}
-use Rattle.schema.specs.Reading.{state, tally_at, earlier, later}
-use Rattle.schema.specs.Questions.{made_at}
+use Rattle.schema.specs.Reading.{state, tally_at, pattern_at, earlier, later}
+use Rattle.schema.specs.Questions.{opening, made_at, from, verdict}
 use Rattle.schema.specs.Plans.{plan_of}
 use Rattle.schema.specs.declared.known.Known.{Known}
 use Rattle.schema.specs.declared.progress.Progress.{Progress}
@@ -27,8 +27,13 @@ pub record Ends (b : List ℕ) (i : ℕ) : Type 0 where
 abbrev pub no_measure : Measure
 no_measure = record { items = 0; count = 0; length = 0 }
 
--- what the first items make is measured
+-- the first items are measured, where a pattern waits after them
 pub record Knows (b : List ℕ) (s : ℕ) (k : Known) : Type 0 where
+  pub few : k.len ≤ most_items
+  pub right : (j : ℕ) → j < k.len → Ends b j → slice_index_or k.measures j no_measure ≡ measure_of s (pattern_at b j)
+
+-- what the first items make is measured, also where no pattern waits after them
+pub record KnowsMade (b : List ℕ) (s : ℕ) (k : Known) : Type 0 where
   pub few : k.len ≤ most_items
   pub right : (j : ℕ) → j < k.len → slice_index_or k.measures j no_measure ≡ measure_of s (made_at b j)
 
@@ -60,3 +65,11 @@ pub record Holds (b : List ℕ) (i : ℕ) (g : Progress) : Type 0 where
   pub counted : Counted b i g
   pub known : g.known.len ≡ i
   pub right : Knows b g.scope g.known
+
+-- all items have passed, and the questions of the whole are left
+pub record Taken (b : List ℕ) (s : ℕ) (g : Progress) : Type 0 where
+  pub opens : opening b s ≡ None
+  pub holds : Holds b (item_count b) g
+  pub made : KnowsMade b g.scope g.known
+  pub scope : g.scope ≡ s
+  pub left : verdict b s ≡ from b s (item_count b) 0

@@ -9,7 +9,7 @@ use Rattle.schema.specs.Bytes.{item_count, root_count}
 use Rattle.schema.specs.Reading.{pattern_at, schema_of}
 use Rattle.schema.specs.Plans.{no_root, entry, plan_of}
 use Rattle.schema.specs.Questions.{made_at, verdict}
-use Rattle.schema.specs.Progress.{Sized, Ends, Knows, no_measure}
+use Rattle.schema.specs.Progress.{Sized, Ends, KnowsMade, no_measure}
 use Rattle.schema.specs.Within.{Within}
 use Rattle.schema.specs.declared.known.Known.{Known}
 use Rattle.schema.specs.declared.plan.Plan.{Plan}
@@ -35,7 +35,7 @@ pub record Sound (b : List ℕ) (s t : ℕ) (p : Plan) (k : Known) : Type 0 wher
   pub plan : p ≡ plan_of s (schema_of b).roots
   pub planned : (j : ℕ) → j < length (schema_of b).roots → Planned b s (slice_index_or p.roots j no_root) (slice_index_or (schema_of b).roots j no_rooted)
   pub all : k.len ≡ item_count b
-  pub right : Knows b s k
+  pub right : KnowsMade b s k
 
 -- The same by numbers alone, as a value of the code carries it.
 

@@ -3,6 +3,9 @@
 //! `check` answers exactly what specs/Questions.antt computes, and specs/Promises.antt says what that means: a table is accepted exactly
 //! when it is the writing of a schema within the limits, and that schema is the only one.
 
+#![tactic(auto)]
+
+mod accepted;
 mod ask;
 pub mod checked;
 mod found;

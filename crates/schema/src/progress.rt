@@ -5,7 +5,7 @@ ghost use Rattle.questions.specs.Limits.{most_candidates, most_events};
 ghost use Rattle.grammar.specs.Measures.{measure_of};
 ghost use Rattle.schema.specs.Bytes.{item_count, root_count};
 ghost use Rattle.schema.specs.Questions.{asked_at, made_at, asks};
-ghost use Rattle.schema.specs.Progress.{Sized, Knows, Counted, Holds};
+ghost use Rattle.schema.specs.Progress.{Sized, Knows, KnowsMade, Counted, Holds};
 
 use crate::ask::ask_sharing;
 use crate::known::Known;
@@ -121,6 +121,7 @@ impl Progress {
         ensures answer { result ≡ asks table.now self.old.scope i }
         ensures scope { result ≡ None → self.new.scope ≡ self.old.scope }
         ensures goes { result ≡ None → Holds table.now (suc i) self.new }
+        ensures made { result ≡ None → KnowsMade table.now self.old.scope self.old.known → KnowsMade table.now self.new.scope self.new.known }
     {
         let item = item_at(table, i);
         if let Some(q) = ask_item(self.scope, self.tally, item, argument_at(table, i)) {

@@ -1,5 +1,7 @@
 //! Text in fixed room, without allocation: what has no room is left out.
 
+#![tactic(auto)]
+
 pub mod sheet;
 mod write;
 

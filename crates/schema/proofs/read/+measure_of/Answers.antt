@@ -9,7 +9,7 @@ use Rattle.schema.specs.Reading.{pattern_at}
 use Rattle.schema.specs.Progress.{Ends}
 use Rattle.items.specs.declared.item.Item.{Item}
 use Rattle.items.specs.declared.item.Item.TheVariants.{Event, Both, Either, Repeat}
-use Rattle.schema.proofs.Waiting.{One, Two, unary, binary, made_ends}
+use Rattle.schema.proofs.Waiting.{One, Two, unary, binary}
 use Rattle.schema.proofs.read.+measure_of.Goals as goal
 
 event_of : (b : List ℕ) (i x : ℕ) → Ends b i → Event x ≡ item_at b i → (q : Pattern) × One b i q × (pattern_at b i ≡ event x q)
@@ -107,7 +107,3 @@ returns-in-Repeat t c =
     c.repeat.ensures
     ∙ (ap₂ (λ k m. repeat_measure x k m) c.most_of.ensures (c.measure_of-once.ensures ∙ ap (measure_of s) u.1.is)
     ∙ (repeat_measures s c.in-Repeat.field-0 x y u.0 ∙ ap (measure_of s) (sym u.2)))
-
-pub returns-then-i-known : goal.returns-then-i-known
-returns-then-i-known t c =
-    c.requires.knows.right c.args.i c.if-i-known.true ∙ ap (measure_of c.args.scope) (made_ends c.args.table.now c.args.i c.requires.ends)

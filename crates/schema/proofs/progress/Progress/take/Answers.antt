@@ -6,10 +6,10 @@ use Rattle.items.specs.Asked.{asked, sized}
 use Rattle.items.specs.declared.item.Item.{Item}
 use Rattle.schema.specs.Bytes.{argument_at, item_at}
 use Rattle.schema.specs.Questions.{asked_at, shared, shared_at, sized_at, made_at}
-use Rattle.schema.specs.Progress.{Knows, Counted}
+use Rattle.schema.specs.Progress.{Knows, KnowsMade, Counted}
 use Rattle.schema.specs.declared.known.Known.{Known}
 use Rattle.schema.specs.declared.progress.Progress.{Progress}
-use Rattle.schema.proofs.Verdicts.{asked_is, shared_is, sized_is, sized_none, asks_asked, asks_shared, asks_sized, known-push}
+use Rattle.schema.proofs.Verdicts.{asked_is, shared_is, sized_is, sized_none, asks_asked, asks_shared, asks_sized, known-push, made-push}
 use Rattle.schema.proofs.progress.Progress.take.Goals as goal
 
 no_some : (q : Question) → Some q ≡ None → ⊥
@@ -33,6 +33,7 @@ returns-in-Some c =
       answer = sym (asks_asked c.args.table.now c.args.self.now.scope c.args.i c.in-Some.q e);
       scope = λ n. absurd (no_some c.in-Some.q n);
       goes = λ n. absurd (no_some c.in-Some.q n);
+      made = λ n. absurd (no_some c.in-Some.q n);
     }
 
 pub returns-in-Some-ask_sharing : goal.returns-in-Some-ask_sharing
@@ -43,6 +44,7 @@ returns-in-Some-ask_sharing c =
       answer = sym (asks_shared c.args.table.now c.args.self.now.scope c.args.i c.in-Some-ask_sharing.q e f);
       scope = λ n. absurd (no_some c.in-Some-ask_sharing.q n);
       goes = λ n. absurd (no_some c.in-Some-ask_sharing.q n);
+      made = λ n. absurd (no_some c.in-Some-ask_sharing.q n);
     }
 
 pub measure_made-m-requires : goal.measure_made-m-requires
@@ -62,6 +64,7 @@ returns-in-Some-ask_measure c =
       answer = sym (asks_sized c.args.table.now c.args.self.now.scope c.args.i e f ∙ h);
       scope = λ n. absurd (no_some c.in-Some-ask_measure.q n);
       goes = λ n. absurd (no_some c.in-Some-ask_measure.q n);
+      made = λ n. absurd (no_some c.in-Some-ask_measure.q n);
     }
 
 pub settle-requires : goal.settle-requires
@@ -96,9 +99,12 @@ returns c =
     let h = said_sized c.args.table.now c.args.i c.args.self.now c.requires.holds.counted _ _ c.in_default-ask_measure.is c.measure_made-m.result c.measure_made-m.ensures c.ask_measure.ensures in
     let kn = known-push c.args.table.now s c.args.i c.args.self.now.known c.push.new.self c.measure_made-m.result c.requires.holds.right c.requires.holds.known
     (omega (arith, c.requires.sized.items, c.requires.within)) c.push.ensures.room c.measure_made-m.ensures c.push.ensures.len c.push.ensures.measures in
+    let md = λ (k : KnowsMade c.args.table.now s c.args.self.now.known). made-push c.args.table.now s c.args.i c.args.self.now.known c.push.new.self c.measure_made-m.result k c.requires.holds.known
+    (omega (arith, c.requires.sized.items, c.requires.within)) c.push.ensures.room c.measure_made-m.ensures c.push.ensures.len c.push.ensures.measures in
     record {
       answer = sym (asks_sized c.args.table.now c.args.self.now.scope c.args.i e f ∙ h);
       scope = λ _. c.settle.ensures.scope;
+      made = λ _ k. subst (λ x. KnowsMade c.args.table.now x c.settle.new.self.known) (sym c.settle.ensures.scope) (subst (KnowsMade c.args.table.now s) (sym c.settle.ensures.known) (md k));
       goes = λ _. record {
         counted = c.settle.ensures.counted;
         known = ap (λ (k : Known). k.len) c.settle.ensures.known ∙ omega (arith, c.push.ensures.len, c.requires.holds.known);

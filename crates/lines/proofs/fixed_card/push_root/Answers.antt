@@ -5,7 +5,7 @@ use Rattle.text.proofs.Kept.{kept_then, kept_number, kept_text}
 use Rattle.lines.specs.Card.{line_end, most_line, entry_line}
 use Rattle.lines.proofs.Entries.{entry_some, entry_none}
 use Rattle.lines.proofs.Short.{short_root}
-use Rattle.lines.proofs.card.push_root.Goals as goal
+use Rattle.lines.proofs.fixed_card.push_root.Goals as goal
 
 pub returns-then-root-eq0 : goal.returns-then-root-eq0
 returns-then-root-eq0 c =

@@ -2,7 +2,7 @@ use Rattle.std.proofs.Common.{codes, decimal, arith}
 use Rattle.text.proofs.Kept.{kept_then, kept_number}
 use Rattle.lines.specs.Card.{line_end}
 use Rattle.lines.proofs.Short.{short_total}
-use Rattle.lines.proofs.card.push_total.Goals as goal
+use Rattle.lines.proofs.fixed_card.push_total.Goals as goal
 
 pub returns : goal.returns
 returns c = record {

@@ -8,7 +8,7 @@ use Rattle.schema.proofs.Verdicts.{planned_yes}
 use Rattle.text.proofs.Kept.{kept_then, kept_whole}
 use Rattle.lines.specs.Card.{line_end, entry_lines, root_lines, total_line}
 use Rattle.lines.proofs.Entries.{plan_lines, card_yes, card_no}
-use Rattle.lines.proofs.card.card_text.Goals as goal
+use Rattle.lines.proofs.fixed_card.card_text.Goals as goal
 
 pub returns-in-Ok : goal.returns-in-Ok
 returns-in-Ok c =
@@ -17,7 +17,7 @@ returns-in-Ok c =
     let n = c.in-Ok.total in
     let lines = entry_lines c.check.new.plan.roots in
     let v = sym c.check.ensures.answer ∙ c.in-Ok.is in
-    let p : c.check.new.plan ≡ plan_of s (schema_of b).roots = c.check.ensures.plan ∙ planned_yes b s n c.empty_plan.result v in
+    let p : c.check.new.plan ≡ plan_of s (schema_of b).roots = c.check.ensures.plan ∙ planned_yes b s n c.empty-plan.result v in
     let e : lines ≡ root_lines s (schema_of b).roots = ap (λ (x : Plan). entry_lines x.roots) p ∙ plan_lines s (schema_of b).roots in
     let few : length c.check.new.plan.roots ≤ most_roots = search rules in
     kept_whole _ _ (lines ++ total_line n) c.new-text.ensures (kept_then _ _ _ lines (total_line n) c.push_roots.ensures.pushed c.push_total.ensures.pushed)

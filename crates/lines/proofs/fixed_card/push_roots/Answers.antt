@@ -6,7 +6,7 @@ use Rattle.text.specs.Text.{text_of}
 use Rattle.text.proofs.Kept.{kept_then, kept_text}
 use Rattle.lines.specs.Card.{entry_line, entry_lines}
 use Rattle.lines.proofs.Entries.{entry_lines_more}
-use Rattle.lines.proofs.card.push_roots.Goals as goal
+use Rattle.lines.proofs.fixed_card.push_roots.Goals as goal
 
 pub loop-root-init : goal.loop-root-init
 loop-root-init c = (kept_text c.args.text.now, omega arith)

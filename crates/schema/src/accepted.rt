@@ -1,0 +1,56 @@
+//! A table that is accepted, and all that the check found.
+
+ghost use Rattle.std.specs.Prelude.{◌≡◌, ◌≤◌, length, take};
+ghost use Rattle.questions.specs.Limits.{most_bytes};
+ghost use Rattle.schema.specs.Questions.{verdict};
+ghost use Rattle.schema.specs.Told.{told, HoldsTable};
+
+use crate::checked::Checked;
+use crate::progress::Progress;
+use crate::verdict::taken;
+use items::ask_whole;
+use questions::Refusal;
+use questions::limits::{MOST_BYTES, NO_ITEM};
+
+/// A copy of the bytes of a table; what does not fit is left out.
+fn bytes_of(table: &[u8]) -> [u8; MOST_BYTES]
+    ensures { length table.now ≤ most_bytes → take (length table.now) result ≡ table.now }
+{
+    let mut bytes = [0; MOST_BYTES];
+    for i in 0..table.len().min(MOST_BYTES) {
+        bytes[i] = table[i];
+    }
+    bytes
+}
+
+impl Checked {
+    /// Checks a table at a scope: what it holds then, or the first question that fails.
+    pub fn of(table: &[u8], scope: u8) -> Result<Checked, Refusal>
+        ensures answer { told result ≡ verdict table.now scope }
+        ensures holds { HoldsTable result table.now scope }
+    {
+        let progress = taken(table, scope)?;
+        if let Some(question) = ask_whole(progress.tally, progress.total, progress.length) {
+            return Err(Refusal {
+                question,
+                item: NO_ITEM,
+            });
+        }
+        let Progress {
+            scope,
+            total,
+            plan,
+            known,
+            ..
+        } = progress;
+        let bytes = bytes_of(table);
+        Ok(Checked {
+            bytes,
+            len: table.len(),
+            scope,
+            total,
+            plan,
+            known,
+        })
+    }
+}
