@@ -1,7 +1,6 @@
 -- How many events candidates lay. Assumes nothing.
 use Rattle.std.specs.Prelude.{ℕ, zero, suc, ◌+◌, List, length, Some, None, Ok, Err, Option, Result}
 use Rattle.questions.specs.declared.refusal.Refusal.{Refusal}
-use Rattle.schema.specs.Questions.{verdict}
 use Rattle.schema.specs.Reading.{schema_of}
 use Rattle.laying.specs.Beginning.{Beginning}
 use Rattle.laying.specs.Laying.{laid_at}

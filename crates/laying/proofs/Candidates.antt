@@ -1,5 +1,5 @@
 -- The roots of a candidate, laid one after another.
-use Rattle.std.proofs.Common.{◌≡◌, ℕ, zero, suc, ◌+◌, ◌-◌, ◌*◌, ◌/◌, ◌%◌, ◌<◌, ◌≤◌, Bool, true, false, cond, ◌&&◌, ltb, leb, ◌⊎◌, List, [], ◌∷◌, ◌++◌, length, get_or, take, drop, Some, None, Option, sym, refl, ap, ◌∙◌, subst, ap₂, inl, inr, append_assoc, mul-zero, zero-mul, div-le_self, arith, length-append}
+use Rattle.std.proofs.Common.{◌≡◌, ℕ, zero, suc, ◌+◌, ◌-◌, ◌*◌, ◌/◌, ◌%◌, ◌<◌, ◌≤◌, false, cond, ◌&&◌, ltb, leb, ◌⊎◌, List, [], ◌∷◌, ◌++◌, length, get_or, take, drop, Some, None, Option, sym, refl, ap, ◌∙◌, subst, ap₂, inl, inr, append_assoc, mul-zero, zero-mul, div-le_self, arith, length-append}
 use native.Mathlib.Nat.{mul-div_cancel_left}
 use Rattle.std.proofs.lemmas.Nat.{div_below, mod_below}
 use Rattle.std.proofs.lemmas.List.{take_at, drop_more}
@@ -11,8 +11,7 @@ use Rattle.grammar.specs.Schema.{Rooted, candidates, events}
 use Rattle.numbering.specs.Choice.{Choice, node}
 use Rattle.numbering.specs.Numbers.{choice_of, choices_of}
 use Rattle.schema.specs.Reading.{pattern_at, schema_of}
-use Rattle.schema.specs.Plans.{no_root, plan_of}
-use Rattle.schema.specs.Progress.{Ends}
+use Rattle.schema.specs.Plans.{no_root}
 use Rattle.schema.specs.Sound.{Planned, Sound, no_rooted}
 use Rattle.schema.specs.Told.{table_of, root_found}
 use Rattle.schema.specs.declared.checked.Checked.{Checked}

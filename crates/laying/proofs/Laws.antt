@@ -1,5 +1,5 @@
 -- What laying one event, one part after another, and ordering two parts adds to what is laid.
-use Rattle.std.proofs.Common.{◌≡◌, ℕ, suc, ◌+◌, ◌^◌, ◌<◌, ◌≤◌, Bool, true, false, cond, ◌&&◌, eqb, ltb, ◌⊎◌, List, [], ◌∷◌, ◌++◌, length, get_or, take, set, Some, None, Option, sym, refl, ap, ◌∙◌, subst, ap₂, inl, inr, append_assoc, append-nil, add-zero, add_assoc, add-one, arith, get_or-set_other, get_or-set_same}
+use Rattle.std.proofs.Common.{◌≡◌, ℕ, suc, ◌+◌, ◌^◌, ◌<◌, ◌≤◌, Bool, true, false, cond, ◌&&◌, eqb, ltb, ◌⊎◌, List, [], ◌∷◌, ◌++◌, length, get_or, take, set, Some, Option, sym, refl, ap, ◌∙◌, subst, ap₂, inl, inr, append_assoc, append-nil, add-zero, add_assoc, add-one, arith, get_or-set_other, get_or-set_same}
 use lib.Bits.{bit_or, or_zero_r, or_comm}
 use Rattle.std.proofs.lemmas.Bool.{cases_eq, cases_lt, lt-ltb, le-ltb, eq-eqb, ne_eqb, cases_Bool}
 use Rattle.rows.specs.Bits.{bit, among, mask}
@@ -7,7 +7,7 @@ use Rattle.rows.specs.Row.{value, no_row}
 use Rattle.rows.specs.declared.row.Row.{Row}
 use Rattle.rows.proofs.Bits.{or_assoc, mask_append, bit_mask}
 use Rattle.grammar.specs.declared.part.Order.{Order}
-use Rattle.grammar.specs.declared.part.Order.TheVariants.{InOrder, AsSet}
+use Rattle.grammar.specs.declared.part.Order.TheVariants.{AsSet}
 use Rattle.numbering.specs.Choice.{Choice, empty, node, pair, took, Side}
 use Rattle.laying.specs.Pairs.{row}
 use Rattle.laying.specs.Events.{size, types, tops, arounds, in_order, precs}

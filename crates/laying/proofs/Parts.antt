@@ -1,5 +1,5 @@
 -- What the items of a checked table take, and how a number is taken apart there.
-use Rattle.std.proofs.Common.{◌≡◌, ℕ, zero, suc, ◌+◌, ◌-◌, ◌*◌, ◌/◌, ◌%◌, ◌^◌, ◌<◌, ◌≤◌, min, Bool, true, false, cond, eqb, ltb, ◌⊎◌, List, sym, refl, ap, ◌∙◌, subst, ap₂, inl, inr, mul-le-mul_right, suc-mul, mul_comm, pow-suc, mul-zero, div-le_self, mul-div_cancel, arith}
+use Rattle.std.proofs.Common.{◌≡◌, ℕ, zero, suc, ◌+◌, ◌-◌, ◌*◌, ◌/◌, ◌%◌, ◌^◌, ◌<◌, ◌≤◌, Bool, true, false, cond, eqb, ltb, ◌⊎◌, List, sym, refl, ap, ◌∙◌, subst, ap₂, inl, inr, mul-le-mul_right, suc-mul, mul_comm, pow-suc, mul-zero, div-le_self, mul-div_cancel, arith}
 use Rattle.std.proofs.lemmas.Nat.{div_below, mod_below}
 use Rattle.std.proofs.lemmas.Bool.{lt-ltb, le-ltb, ltb-true, ltb-false, eq-eqb, cases_lt}
 use Rattle.questions.specs.Limits.{most_type, most_times, most_scope, most_candidates, scope_mark}
@@ -13,7 +13,6 @@ use Rattle.items.specs.declared.item.Item.TheVariants.{Nothing, Atom, Event, Bot
 use Rattle.numbering.specs.Choice.{Choice, empty, node, pair, took, earlier, later}
 use Rattle.numbering.specs.Numbers.{times, occurrences, choice_of}
 use Rattle.numbering.specs.Splits.{side_at, power_capped, times_at}
-use Rattle.numbering.specs.declared.split.Taken.{Taken}
 use Rattle.numbering.specs.declared.split.Taken.TheVariants.{Earlier, Later}
 use Rattle.numbering.specs.declared.split.Repeated.{Repeated}
 use Rattle.schema.specs.Bytes.{item_count, item_at}
@@ -21,7 +20,7 @@ use Rattle.schema.specs.Reading.{state, top, stacked, pattern_at}
 use Rattle.schema.specs.Questions.{made_at}
 use Rattle.schema.specs.Progress.{Ends, no_measure}
 use Rattle.schema.specs.Told.{item_found, measure_found}
-use Rattle.schema.proofs.Waiting.{One, Two, unary, binary, made_ends}
+use Rattle.schema.proofs.Waiting.{One, unary, binary, made_ends}
 use Rattle.laying.specs.Lays.{Layable}
 
 -- Items and measures that are there.

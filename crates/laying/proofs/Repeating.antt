@@ -1,9 +1,9 @@
 -- The choices of a repetition are its occurrences.
-use Rattle.std.proofs.Common.{◌≡◌, ℕ, zero, suc, ◌≤◌, List, [], ◌∷◌, length, sym, refl, ap, ◌∙◌, subst}
+use Rattle.std.proofs.Common.{◌≡◌, ℕ, zero, suc, ◌≤◌, List, [], ◌∷◌, length, sym, refl, ap, subst}
 use Rattle.grammar.specs.Pattern.{Pattern, repeat, most}
 use Rattle.grammar.specs.declared.part.Order.{Order}
 use Rattle.numbering.specs.Allows.{Allows, repeated, Occurs, none, one_more}
-use Rattle.numbering.specs.Choice.{Choice, empty, pair}
+use Rattle.numbering.specs.Choice.{Choice, pair}
 use Rattle.laying.specs.Promises.{occurring_all, EachAllowed, RepetitionsOccur}
 
 -- k occurrences as a list

@@ -1,21 +1,13 @@
 -- One root more, and all roots of a candidate one after another.
-use Rattle.std.proofs.Common.{◌≡◌, ℕ, zero, suc, ◌+◌, ◌-◌, ◌*◌, ◌/◌, ◌%◌, ◌<◌, ◌≤◌, Bool, true, false, cond, ◌&&◌, ltb, ◌⊎◌, List, [], ◌∷◌, ◌++◌, map, length, get_or, take, drop, set, None, sym, refl, ap, ◌∙◌, subst, ap₂, inl, inr, append_assoc, append-nil, add-zero, mul-zero, zero-add, zero-mul, div-le_self, arith, length-append}
-use native.Mathlib.Nat.{mul-div_cancel_left}
+use Rattle.std.proofs.Common.{◌≡◌, ℕ, suc, ◌+◌, ◌<◌, ◌≤◌, Bool, true, false, cond, ◌&&◌, ltb, ◌⊎◌, List, [], ◌∷◌, ◌++◌, map, length, get_or, take, set, None, sym, refl, ap, ◌∙◌, ap₂, inl, inr, append-nil, add-zero, zero-add, arith}
 use lib.Bits.{bit_or}
-use Rattle.std.proofs.lemmas.Nat.{div_below, mod_below}
 use Rattle.std.proofs.lemmas.List.FromFn.{length-map-range_with_len, get_or-map-range_with_len, fill_by_all}
-use Rattle.std.proofs.lemmas.List.{take_more_set, take_at, drop_more, drop_all}
-use Rattle.std.proofs.lemmas.Bool.{cases_lt, cases_Bool, lt-ltb, le-ltb}
+use Rattle.std.proofs.lemmas.List.{take_more_set}
+use Rattle.std.proofs.lemmas.Bool.{cases_lt, cases_Bool, le-ltb}
 use Rattle.std.specs.List.{range_with_len}
-use Rattle.questions.specs.Limits.{most_events}
 use Rattle.rows.specs.Bits.{among, mask}
 use Rattle.rows.specs.Row.{value, no_row}
-use Rattle.grammar.specs.Pattern.{count, len}
-use Rattle.grammar.specs.Schema.{Rooted, candidates, events}
-use Rattle.grammar.specs.declared.part.Order.{Order}
-use Rattle.grammar.specs.declared.part.Order.TheVariants.{AsSet}
 use Rattle.numbering.specs.Choice.{Choice, empty, node, pair, took}
-use Rattle.numbering.specs.Numbers.{choice_of, choices_of}
 use Rattle.laying.specs.Pairs.{row}
 use Rattle.laying.specs.Events.{size, types, tops, arounds, in_order, precs}
 use Rattle.laying.specs.Beginning.{whole, starts, Beginning, beginning_of}

@@ -1,5 +1,5 @@
 -- What a choice lays: its events in laying order, from a place on, what is IN what and what PRECEDES what. Assumes nothing.
-use Rattle.std.specs.Prelude.{ℕ, suc, ◌+◌, ◌<◌, ◌≤◌, Bool, true, false, List, [], ◌∷◌, ◌++◌, Some, None, Option}
+use Rattle.std.specs.Prelude.{ℕ, suc, ◌+◌, Bool, true, false, List, [], ◌∷◌, ◌++◌, Some, Option}
 use Rattle.grammar.specs.declared.part.Order.{Order}
 use Rattle.grammar.specs.declared.part.Order.TheVariants.{InOrder, AsSet}
 use Rattle.numbering.specs.Choice.{Choice, empty, node, pair, took}

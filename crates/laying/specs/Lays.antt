@@ -1,9 +1,8 @@
 -- What laying a choice adds to what is laid. Assumes nothing.
-use Rattle.std.specs.Prelude.{◌≡◌, ℕ, ◌+◌, ◌<◌, ◌≤◌, true, cond, ◌&&◌, List, [], ◌∷◌, ◌++◌, map, length, take, Option, bit_or, nat_lt, slice_index_or}
+use Rattle.std.specs.Prelude.{◌≡◌, ℕ, ◌+◌, ◌<◌, ◌≤◌, true, cond, ◌&&◌, List, [], ◌∷◌, ◌++◌, map, take, Option, bit_or, nat_lt, slice_index_or}
 use Rattle.std.specs.List.{range_with_len}
-use Rattle.rows.specs.Bits.{bit, mask}
+use Rattle.rows.specs.Bits.{bit}
 use Rattle.rows.specs.Row.{value, no_row}
-use Rattle.rows.specs.declared.row.Row.{Row}
 use Rattle.grammar.specs.Pattern.{count}
 use Rattle.grammar.specs.Fits.{Fits}
 use Rattle.grammar.specs.declared.part.Order.{Order}
@@ -11,7 +10,7 @@ use Rattle.numbering.specs.Choice.{Choice}
 use Rattle.schema.specs.Reading.{pattern_at}
 use Rattle.schema.specs.Progress.{Ends}
 use Rattle.laying.specs.Pairs.{row}
-use Rattle.laying.specs.Events.{size, types, tops, arounds, in_order, precs}
+use Rattle.laying.specs.Events.{size, types, arounds, in_order, precs}
 use Rattle.laying.specs.Beginning.{Beginning}
 use Rattle.laying.specs.declared.laid.Laid.{Laid}
 

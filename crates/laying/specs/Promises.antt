@@ -1,9 +1,9 @@
 -- What laying means, in the words of events. Assumes nothing.
-use Rattle.std.specs.Prelude.{◌≡◌, ℕ, suc, ◌+◌, ◌<◌, ◌≤◌, true, ◌⊎◌, ◌↔◌, List, [], ◌∷◌, ◌++◌, length, take, Some, None, Option, slice_index_or}
+use Rattle.std.specs.Prelude.{◌≡◌, ℕ, suc, ◌+◌, ◌<◌, ◌≤◌, true, ◌⊎◌, ◌↔◌, List, [], ◌∷◌, ◌++◌, length, take, Some, None, slice_index_or}
 use Rattle.rows.specs.Bits.{bit}
 use Rattle.grammar.specs.Pattern.{Pattern, repeat, most}
 use Rattle.grammar.specs.declared.part.Order.{Order}
-use Rattle.grammar.specs.declared.part.Order.TheVariants.{InOrder, AsSet}
+use Rattle.grammar.specs.declared.part.Order.TheVariants.{InOrder}
 use Rattle.numbering.specs.Allows.{Allows}
 use Rattle.numbering.specs.Choice.{Choice, empty, node, pair, took, Side}
 use Rattle.laying.specs.Pairs.{Pairs, Paired, Among, row}

@@ -1,5 +1,5 @@
 -- How long the lines are at most.
-use Rattle.std.proofs.Common.{ℕ, ◌+◌, ◌^◌, ◌<◌, ◌≤◌, ◌++◌, length, Some, decimal, Option, arith, length-append}
+use Rattle.std.proofs.Common.{ℕ, ◌^◌, ◌<◌, ◌≤◌, ◌++◌, length, Some, decimal, Option, arith, length-append}
 use Rattle.std.proofs.lemmas.Fmt.{length-decimal-le}
 use Rattle.questions.specs.Numbers.{number_of, refusal_line}
 use Rattle.questions.specs.declared.refusal.Refusal.{Refusal}

@@ -1,28 +1,26 @@
 -- What a check knows at its end, what a checked table carries of it, and what follows again.
-use Rattle.std.proofs.Common.{◌≡◌, ℕ, suc, ◌+◌, ◌-◌, ◌<◌, ◌≤◌, List, [], ◌∷◌, ◌++◌, length, get_or, replicate, Some, None, Ok, Err, Result, sym, refl, ap, ◌∙◌, subst, ap₂, arith, length-append}
+use Rattle.std.proofs.Common.{◌≡◌, ℕ, suc, ◌+◌, ◌-◌, ◌≤◌, List, [], ◌∷◌, length, get_or, replicate, Some, None, Ok, Err, Result, sym, refl, ap, ◌∙◌, subst, ap₂, arith, length-append}
 use Rattle.std.proofs.lemmas.List.{get_or_append_left, get_or_past, length-replicate}
 use Rattle.questions.specs.Limits.{no_item, most_roots}
 use Rattle.questions.specs.declared.question.Question.{Question}
 use Rattle.questions.specs.declared.refusal.Refusal.{Refusal}
 use Rattle.grammar.specs.Pattern.{size}
-use Rattle.grammar.specs.Schema.{Rooted, Schema, candidates, events}
-use Rattle.grammar.specs.Measures.{measure_of}
+use Rattle.grammar.specs.Schema.{Rooted, candidates, events}
 use Rattle.grammar.specs.declared.measure.Measure.{Measure}
 use Rattle.items.specs.Asked.{closing}
-use Rattle.schema.specs.Bytes.{item_count, root_count}
+use Rattle.schema.specs.Bytes.{item_count}
 use Rattle.schema.specs.Reading.{state, tally_at, schema_of}
 use Rattle.schema.specs.Plans.{no_root, entries, plan_of}
-use Rattle.schema.specs.Questions.{closing_at, answered, from, verdict}
-use Rattle.schema.specs.Progress.{Sized, Ends, KnowsMade, no_measure, Holds, Taken}
+use Rattle.schema.specs.Questions.{closing_at, answered, verdict}
+use Rattle.schema.specs.Progress.{KnowsMade, Taken}
 use Rattle.schema.specs.Sound.{Planned, Sound, no_rooted, total_in, Accepts, numbers_of_root, numbers_of_roots, PlansRoots, numbers_of_measure, MeasuresAll}
 use Rattle.schema.specs.Told.{table_of}
-use Rattle.schema.specs.Writing.{roots_written, operations_written}
+use Rattle.schema.specs.Writing.{operations_written}
 use Rattle.schema.specs.declared.checked.Checked.{Checked}
 use Rattle.schema.specs.declared.known.Known.{Known}
 use Rattle.schema.specs.declared.plan.Plan.{Plan}
 use Rattle.schema.specs.declared.plan.Root.{Root}
 use Rattle.schema.specs.declared.progress.Progress.{Progress}
-use Rattle.schema.proofs.Advance.{between}
 use Rattle.schema.proofs.Coding.{Bytes}
 use Rattle.schema.proofs.Planned.{planned_from}
 use Rattle.schema.proofs.Tables.{accepted_passes, passes_writes, passes_accepted, all_items}

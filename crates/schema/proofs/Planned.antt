@@ -1,5 +1,5 @@
 -- Where the roots of a table end: the entries of its plan name the items that close them.
-use Rattle.std.proofs.Common.{◌≡◌, ℕ, zero, suc, ◌+◌, ◌-◌, ◌<◌, ◌≤◌, List, [], ◌∷◌, ◌++◌, length, get_or, take, sym, refl, ap, ◌∙◌, subst, append_assoc, append-nil, add-zero, add-suc, arith, length-append}
+use Rattle.std.proofs.Common.{◌≡◌, ℕ, zero, suc, ◌+◌, ◌<◌, List, [], ◌∷◌, ◌++◌, length, get_or, take, sym, refl, ap, ◌∙◌, subst, append_assoc, append-nil, add-zero, add-suc, arith, length-append}
 use Rattle.std.proofs.lemmas.List.{take_at}
 use Rattle.grammar.specs.Pattern.{Pattern, nothing, atom, event, both, either, repeat, size}
 use Rattle.grammar.specs.Schema.{Rooted}

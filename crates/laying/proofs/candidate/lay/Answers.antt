@@ -1,7 +1,6 @@
-use Rattle.std.proofs.Common.{◌≡◌, ◌+◌, ◌-◌, ◌/◌, List, [], ◌∷◌, ◌++◌, sym, refl, ap, ◌∙◌, subst, inl, inr, arith}
+use Rattle.std.proofs.Common.{◌≡◌, ◌+◌, ◌-◌, ◌/◌, List, [], ◌∷◌, ◌++◌, sym, subst, inl, inr, arith}
 use Rattle.numbering.specs.Choice.{Choice, node}
 use Rattle.numbering.specs.Numbers.{choice_of}
-use Rattle.numbering.specs.Promises.{PatternsNumbered, RootsNumbered}
 use Rattle.numbering.proofs.Numbered.{patterns_numbered, roots_numbered}
 use Rattle.schema.specs.Reading.{pattern_at, schema_of}
 use Rattle.schema.specs.Told.{table_of}

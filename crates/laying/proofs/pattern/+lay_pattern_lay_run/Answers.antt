@@ -1,15 +1,15 @@
-use Rattle.std.proofs.Common.{◌≡◌, ℕ, ◌+◌, ◌-◌, ◌*◌, ◌/◌, ◌%◌, ◌^◌, ◌<◌, ◌≤◌, List, Some, sym, refl, ap, ◌∙◌, subst, ap₂, arith}
+use Rattle.std.proofs.Common.{◌≡◌, ℕ, ◌-◌, ◌/◌, ◌^◌, ◌<◌, List, Some, sym, ap, ◌∙◌, subst, ap₂, arith}
 use lib.Bits.{bit_or}
 use Rattle.rows.specs.Bits.{mask}
 use Rattle.rows.specs.Row.{value}
 use Rattle.grammar.specs.Pattern.{count, len, most}
-use Rattle.numbering.specs.Choice.{Choice, empty, node, pair, took, earlier, later}
+use Rattle.numbering.specs.Choice.{Choice, empty, node, pair, earlier, later}
 use Rattle.numbering.specs.Numbers.{times, choice_of}
 use Rattle.schema.specs.Reading.{pattern_at}
 use Rattle.schema.specs.Told.{table_of}
 use Rattle.schema.proofs.Carried.{checked_sound}
 use Rattle.laying.specs.Events.{tops}
-use Rattle.laying.specs.Lays.{Layable, Lays}
+use Rattle.laying.specs.Lays.{Layable}
 use Rattle.laying.proofs.Laws.{lays_empty, lays_node, lays_took, lays_pair, lays_as, tops_empty, tops_node, tops_took, tops_pair, tops_between}
 use Rattle.laying.proofs.Parts.{nothing_at, atom_at, inside_of, parts_of, sides_of, earlier_taken, later_taken, many_of, first_of, times_more, times_none, times_long, not_none}
 use Rattle.laying.proofs.pattern.+lay_pattern_lay_run.Goals as goal

@@ -1,5 +1,5 @@
 use Rattle.std.proofs.Common.{◌≡◌, ℕ, ◌-◌, ◌<◌, ◌⊎◌, List, sym, refl, ap, ◌∙◌, ap₂, inl, inr, arith}
-use Rattle.grammar.specs.Pattern.{Pattern, event, both, either, repeat, most, size}
+use Rattle.grammar.specs.Pattern.{Pattern, event, both, either, repeat, size}
 use Rattle.grammar.specs.Measures.{measure_of, inside_measure, both_measure, either_measure, repeat_measure}
 use Rattle.grammar.specs.declared.measure.Measure.{Measure}
 use Rattle.grammar.specs.declared.part.Order.{Order}

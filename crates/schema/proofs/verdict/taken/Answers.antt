@@ -1,4 +1,4 @@
-use Rattle.std.proofs.Common.{◌≡◌, ℕ, ◌-◌, ◌<◌, Some, None, sym, ap, ◌∙◌, ap₂, add-one, arith, subst}
+use Rattle.std.proofs.Common.{◌≡◌, ◌-◌, ◌<◌, Some, None, sym, ap, ◌∙◌, ap₂, add-one, arith, subst}
 use Rattle.schema.specs.Bytes.{item_count}
 use Rattle.schema.specs.Questions.{asks, from}
 use Rattle.schema.specs.Progress.{Holds}

@@ -1,6 +1,5 @@
 use Rattle.std.proofs.Common.{refl}
-use Rattle.laying.specs.Pairs.{row}
-use Rattle.laying.specs.Events.{size, types, arounds, precs}
+use Rattle.laying.specs.Events.{size, types, arounds}
 use Rattle.laying.specs.Beginning.{starts, beginning_of}
 use Rattle.laying.specs.Lays.{shown}
 use Rattle.laying.proofs.laid.Laid.nothing.Goals as goal

@@ -1,8 +1,8 @@
-use Rattle.std.proofs.Common.{◌≡◌, ◌<◌, ◌≤◌, cond, eqb, length, sym, refl, ap, ◌∙◌, inl, inr, arith, rules}
+use Rattle.std.proofs.Common.{◌<◌, cond, eqb, sym, refl, ap, ◌∙◌, inl, inr, arith, rules}
 use lib.Bits.{bit_or, or_zero_r}
 use Rattle.rows.specs.Row.{value}
 use Rattle.laying.specs.Lays.{row_at}
-use Rattle.laying.proofs.Laws.{row_set, row_here, ordered_below, below_none, below_all, below_more}
+use Rattle.laying.proofs.Laws.{row_set, row_here, below_none, below_all, below_more}
 use Rattle.laying.specs.declared.laid.Laid.{Laid}
 use Rattle.laying.proofs.laid.Laid.precede.Goals as goal
 use Rattle.laying.proofs.laid.Laid.precede.Goals.{then-has, else-has}

@@ -1,4 +1,4 @@
-use Rattle.std.proofs.Common.{◌≡◌, ℕ, ◌≤◌}
+use Rattle.std.proofs.Common.{◌≡◌, ℕ}
 use lib.Bits.{bit_or}
 use Rattle.rows.specs.Row.{value}
 use Rattle.laying.specs.Lays.{row_at}

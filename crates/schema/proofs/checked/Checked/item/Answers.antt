@@ -1,6 +1,5 @@
-use Rattle.std.proofs.Common.{◌≡◌, ◌<◌, length, sym, ap, ◌∙◌, arith}
-use Rattle.schema.specs.Bytes.{item_count, item_at}
-use Rattle.schema.specs.Told.{table_of}
+use Rattle.std.proofs.Common.{length, ap, arith}
+use Rattle.schema.specs.Bytes.{item_count}
 use Rattle.schema.proofs.Carried.{checked_sound}
 use Rattle.schema.proofs.checked.Checked.item.Goals as goal
 

@@ -1,4 +1,4 @@
-use Rattle.std.proofs.Common.{◌≡◌, sym, refl, ap, ◌∙◌, arith}
+use Rattle.std.proofs.Common.{arith}
 use Rattle.schema.proofs.Carried.{checked_sound}
 use Rattle.schema.proofs.checked.Checked.measure.Goals as goal
 

@@ -1,4 +1,4 @@
-use Rattle.std.proofs.Common.{◌≡◌, length, get_or, sym, refl, ap, ◌∙◌, arith}
+use Rattle.std.proofs.Common.{get_or, sym, ap}
 use Rattle.schema.specs.Plans.{no_root}
 use Rattle.schema.specs.Reading.{schema_of}
 use Rattle.schema.specs.Told.{table_of}

@@ -1,4 +1,4 @@
-use Rattle.std.proofs.Common.{◌≡◌, length, sym, ap, ◌∙◌, arith}
+use Rattle.std.proofs.Common.{length, sym, ap, ◌∙◌, arith}
 use Rattle.schema.specs.Bytes.{word}
 use Rattle.schema.proofs.Carried.{checked_sound}
 use Rattle.schema.proofs.checked.Checked.roots.Goals as goal

@@ -1,4 +1,4 @@
-use Rattle.std.proofs.Common.{◌≡◌, ℕ, List, length, Some, None, Option, sym, ap, ◌∙◌, subst, arith}
+use Rattle.std.proofs.Common.{◌≡◌, ℕ, List, Some, None, Option, sym, ap, ◌∙◌, subst, arith}
 use Rattle.questions.specs.declared.question.Question.{Question}
 use Rattle.grammar.specs.Measures.{measure_of}
 use Rattle.grammar.specs.declared.measure.Measure.{Measure}
