@@ -1,7 +1,7 @@
 //! How many items write a pattern, how many choices it has and how many events it lays at most.
 
 ghost use Rattle.std.specs.Prelude.{◌≡◌, ◌+◌, ◌*◌, ◌^◌};
-ghost use Rattle.grammar.specs.Pattern.{powers, span, most as most-at};
+ghost use Rattle.grammar.specs.Pattern.{powers, span, most as most_at};
 ghost use Rattle.grammar.specs.Measures.{items_capped, count_capped, length_capped, nothing_measure, atom_measure, inside_measure, both_measure, either_measure, repeat_measure};
 
 use questions::limits::{MOST_CANDIDATES, MOST_EVENTS, MOST_ITEMS, SCOPE_MARK};
@@ -76,7 +76,7 @@ fn powers_capped(c: u32, least: u8, most: u8) -> u32
 
 /// The most of a repetition: the mark stands for the scope.
 pub fn most_of(scope: u8, most: u8) -> u8
-    ensures { result ≡ most-at scope most }
+    ensures { result ≡ most_at scope most }
 {
     if most == SCOPE_MARK { scope } else { most }
 }

@@ -82,7 +82,7 @@ joined_numbered {A} {B} {C} {P} {Q} {c} {d} {u} {v} {r} {w} join number same a b
 pub sum_numbered : {C : Type 0} {P Q : C → Type 0} {c d : ℕ} {u v : ℕ → C} {r w : C → ℕ} (choose : ℕ → C) (number : C → ℕ)
     → ((n : ℕ) → n < c → choose n ≡ u n) → ((n : ℕ) → c ≤ n → choose n ≡ v (n - c)) → ((x : C) → P x → number x ≡ r x) → ((x : C) → Q x → number x ≡ c + w x)
     → OneToOne P c u r → OneToOne Q d v w → OneToOne (λ x. P x ⊎ Q x) (c + d) choose number
-sum_numbered {C} {P} {Q} {c} {d} {u} {v} {r} {w} choose number low high in_p in-q a b = record {
+sum_numbered {C} {P} {Q} {c} {d} {u} {v} {r} {w} choose number low high in_p in_q a b = record {
   allowed = λ n h. sum_allowed n h (cases_lt n c);
   below = sum_below;
   back = λ n h. sum_back n h (cases_lt n c);
@@ -95,14 +95,14 @@ sum_numbered {C} {P} {Q} {c} {d} {u} {v} {r} {w} choose number low high in_p in-
 
     sum_below : (x : C) → P x ⊎ Q x → number x < c + d
     sum_below x (inl p) = omega (arith, in_p x p, a.below x p)
-    sum_below x (inr q) = omega (arith, in-q x q, b.below x q)
+    sum_below x (inr q) = omega (arith, in_q x q, b.below x q)
 
     sum_back : (n : ℕ) → n < c + d → (n < c) ⊎ (c ≤ n) → number (choose n) ≡ n
     sum_back n h (inl l) = rw (low n l) (in_p (u n) (a.allowed n l) ∙ a.back n l)
     sum_back n h (inr l) =
         let k : n - c < d = omega arith in
-        rw (high n l) (in-q (v (n - c)) (b.allowed (n - c) k) ∙ (ap (λ i. c + i) (b.back (n - c) k) ∙ add-sub_of_le l))
+        rw (high n l) (in_q (v (n - c)) (b.allowed (n - c) k) ∙ (ap (λ i. c + i) (b.back (n - c) k) ∙ add-sub_of_le l))
 
     sum_again : (x : C) → P x ⊎ Q x → choose (number x) ≡ x
     sum_again x (inl p) = rw (in_p x p) (low (r x) (a.below x p) ∙ a.again x p)
-    sum_again x (inr q) = rw (in-q x q) (high (c + w x) (omega arith) ∙ (ap v (add-sub_cancel_left c (w x)) ∙ b.again x q))
+    sum_again x (inr q) = rw (in_q x q) (high (c + w x) (omega arith) ∙ (ap v (add-sub_cancel_left c (w x)) ∙ b.again x q))

@@ -63,9 +63,9 @@ fits_step s r (Relate o) ps u m a = tt
 fits_step s r (AtMost n) ps u m a = tt
 fits_step s r Unknown ps u m a = tt
 
-roots_fit-push : (s : ℕ) (rs : List Rooted) (x : Rooted) → RootsFit s rs → Fits s (event x.event x.pattern) → RootsFit s (rs ++ (x ∷ []))
-roots_fit-push s [] x a f = (f, tt)
-roots_fit-push s (y ∷ rs) x a f = (a.0, roots_fit-push s rs x a.1 f)
+RootsFit-push : (s : ℕ) (rs : List Rooted) (x : Rooted) → RootsFit s rs → Fits s (event x.event x.pattern) → RootsFit s (rs ++ (x ∷ []))
+RootsFit-push s [] x a f = (f, tt)
+RootsFit-push s (y ∷ rs) x a f = (a.0, RootsFit-push s rs x a.1 f)
 
 fits_top : (s : ℕ) (ps : List Pattern) → length ps ≡ 1 → FitAll s ps → Fits s (top ps)
 fits_top s [] e a = absurd (omega arith)
@@ -78,7 +78,7 @@ roots_step s r c p (Event t) ps rs u f m a b = b
 roots_step s r c p (Both o) ps rs u f m a b = b
 roots_step s r c p Either ps rs u f m a b = b
 roots_step s r c p (Repeat o x y) ps rs u f m a b = b
-roots_step s r c p (Root t) ps rs u f m a b = roots_fit-push s rs (record { event = t; pattern = top ps }) b (fits_top s ps f.1 a, u, m)
+roots_step s r c p (Root t) ps rs u f m a b = RootsFit-push s rs (record { event = t; pattern = top ps }) b (fits_top s ps f.1 a, u, m)
 roots_step s r c p (Pick x) ps rs u f m a b = b
 roots_step s r c p (Relate o) ps rs u f m a b = b
 roots_step s r c p (AtMost n) ps rs u f m a b = b
