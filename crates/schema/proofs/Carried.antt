@@ -24,7 +24,7 @@ use Rattle.schema.specs.declared.progress.Progress.{Progress}
 use Rattle.schema.proofs.Coding.{Bytes}
 use Rattle.schema.proofs.Planned.{planned_from}
 use Rattle.schema.proofs.Tables.{accepted_passes, passes_writes, passes_accepted, all_items}
-use Rattle.schema.proofs.Verdicts.{from_end, closing_is, ended, opened_sized}
+use Rattle.schema.proofs.Verdicts.{closing_is, ended, opened_sized}
 
 -- From the end of a check.
 
@@ -43,7 +43,7 @@ ready b s g h n =
     let t : g.total ≡ candidates g.scope (state b i).roots = omega (arith, d.total, c.total) in
     let t2 : g.total ≡ candidates s (schema_of b).roots = t ∙ ap (λ x. candidates x (state b i).roots) h.scope in
     record {
-      accepted = ap (verdict b) h.scope ∙ (h.left ∙ (from_end b s ∙ (ap (λ o. answered o no_item (Ok (candidates s (schema_of b).roots))) k ∙ ap Ok (sym t2))));
+      accepted = ap (verdict b) h.scope ∙ (h.left ∙ (ap (λ o. answered o no_item (Ok (candidates s (schema_of b).roots))) k ∙ ap Ok (sym t2)));
       plan = c.plan;
       all = h.holds.known;
       right = h.made;
@@ -53,7 +53,7 @@ ready b s g h n =
 pub whole_no : (b : List ℕ) (s : ℕ) (g : Progress) (q : Question) → Taken b s g → closing g.tally g.total g.length ≡ Some q → verdict b s ≡ Err (record { question = q; item = no_item })
 whole_no b s g q h n =
     let k : closing_at b s ≡ Some q = ap (closing_at b) (sym h.scope) ∙ (sym (closing_is b (item_count b) g h.holds.counted refl) ∙ n) in
-    h.left ∙ (from_end b s ∙ ap (λ o. answered o no_item (Ok (candidates s (schema_of b).roots))) k)
+    h.left ∙ ap (λ o. answered o no_item (Ok (candidates s (schema_of b).roots))) k
 
 -- What is carried.
 

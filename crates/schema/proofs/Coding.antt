@@ -101,20 +101,20 @@ length-arguments : (xs : List Item) → length (arguments xs) ≡ 2 * length xs
 length-arguments [] = refl
 length-arguments (x ∷ xs) = let h = length-arguments xs in omega arith
 
-getD_kinds : (xs : List Item) (i : ℕ) → get_or (kinds xs) i 0 ≡ kind_of (get_or xs i Nothing)
-getD_kinds [] i = refl
-getD_kinds (x ∷ xs) zero = refl
-getD_kinds (x ∷ xs) (suc i) = getD_kinds xs i
+get_or-kinds : (xs : List Item) (i : ℕ) → get_or (kinds xs) i 0 ≡ kind_of (get_or xs i Nothing)
+get_or-kinds [] i = refl
+get_or-kinds (x ∷ xs) zero = refl
+get_or-kinds (x ∷ xs) (suc i) = get_or-kinds xs i
 
-getD_low : (xs : List Item) (i : ℕ) → get_or (arguments xs) (2 * i) 0 ≡ argument_of (get_or xs i Nothing) % 256
-getD_low [] i = refl
-getD_low (x ∷ xs) zero = refl
-getD_low (x ∷ xs) (suc i) = ap (λ k. get_or (arguments (x ∷ xs)) k 0) {x = 2 * suc i} {y = suc (suc (2 * i))} (omega arith) ∙ getD_low xs i
+get_or-low : (xs : List Item) (i : ℕ) → get_or (arguments xs) (2 * i) 0 ≡ argument_of (get_or xs i Nothing) % 256
+get_or-low [] i = refl
+get_or-low (x ∷ xs) zero = refl
+get_or-low (x ∷ xs) (suc i) = ap (λ k. get_or (arguments (x ∷ xs)) k 0) {x = 2 * suc i} {y = suc (suc (2 * i))} (omega arith) ∙ get_or-low xs i
 
-getD_high : (xs : List Item) (i : ℕ) → get_or (arguments xs) (2 * i + 1) 0 ≡ argument_of (get_or xs i Nothing) / 256
-getD_high [] i = refl
-getD_high (x ∷ xs) zero = refl
-getD_high (x ∷ xs) (suc i) = ap (λ k. get_or (arguments (x ∷ xs)) k 0) {x = 2 * suc i + 1} {y = suc (suc (2 * i + 1))} (omega arith) ∙ getD_high xs i
+get_or-high : (xs : List Item) (i : ℕ) → get_or (arguments xs) (2 * i + 1) 0 ≡ argument_of (get_or xs i Nothing) / 256
+get_or-high [] i = refl
+get_or-high (x ∷ xs) zero = refl
+get_or-high (x ∷ xs) (suc i) = ap (λ k. get_or (arguments (x ∷ xs)) k 0) {x = 2 * suc i + 1} {y = suc (suc (2 * i + 1))} (omega arith) ∙ get_or-high xs i
 
 both_bytes : (n : ℕ) → n % 256 + 256 * (n / 256) ≡ n
 both_bytes n = omega arith
@@ -149,7 +149,7 @@ decoded s r xs suited b e = record {
     kind : (j : ℕ) → j < length xs → kind_at b j ≡ kind_of (get_or xs j Nothing)
     kind j l =
         let k : j < length (kinds xs) = rw length-kinds l in
-        sym (get_or-drop 4 b j 0) ∙ (ap (λ l. get_or l j 0) four ∙ (get_or_append_left (kinds xs) (arguments xs) 0 j k ∙ getD_kinds xs j))
+        sym (get_or-drop 4 b j 0) ∙ (ap (λ l. get_or l j 0) four ∙ (get_or_append_left (kinds xs) (arguments xs) 0 j k ∙ get_or-kinds xs j))
 
     past : (j : ℕ) → get_or b (4 + length xs + j) 0 ≡ get_or (arguments xs) j 0
     past j =
@@ -160,7 +160,7 @@ decoded s r xs suited b e = record {
     argument : (j : ℕ) → j < length xs → argument_at b j ≡ argument_of (get_or xs j Nothing)
     argument j l =
         ap (λ k. get_or b (4 + k + 2 * j) 0 + 256 * get_or b (4 + k + 2 * j + 1) 0) its
-        ∙ (ap₂ (λ u v. u + 256 * v) (past (2 * j) ∙ getD_low xs j) (ap (λ k. get_or b k 0) {x = 4 + length xs + 2 * j + 1} {y = 4 + length xs + (2 * j + 1)} (omega arith) ∙ (past (2 * j + 1) ∙ getD_high xs j))
+        ∙ (ap₂ (λ u v. u + 256 * v) (past (2 * j) ∙ get_or-low xs j) (ap (λ k. get_or b k 0) {x = 4 + length xs + 2 * j + 1} {y = 4 + length xs + (2 * j + 1)} (omega arith) ∙ (past (2 * j + 1) ∙ get_or-high xs j))
         ∙ both_bytes (argument_of (get_or xs j Nothing)))
 
     item : (j : ℕ) → j < length xs → item_at b j ≡ get_or xs j Nothing

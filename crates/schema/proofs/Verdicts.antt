@@ -159,9 +159,9 @@ unfolding from
 from_more b s i n h e = ap (from b s i) (left_more n i h) ∙ ap (λ o. answered o i (from b s (suc i) (n - suc i))) e
 
 -- the verdict where all items passed
-pub from_end : (b : List ℕ) (s : ℕ) → from b s (item_count b) 0 ≡ answered (closing_at b s) no_item (Ok (candidates s (schema_of b).roots))
+pub from_last : (b : List ℕ) (s i : ℕ) → i ≡ item_count b → from b s i (item_count b - i) ≡ answered (closing_at b s) no_item (Ok (candidates s (schema_of b).roots))
 unfolding from
-from_end b s = refl
+from_last b s i e = ap (from b s i) {x = item_count b - i} {y = 0} (omega arith)
 
 pub planned_no : (b : List ℕ) (s : ℕ) (old : Plan) (e : Refusal) → verdict b s ≡ Err e → old ≡ planned b s old
 unfolding planned

@@ -1,13 +1,13 @@
 -- What the check's own functions ask and keep: what is known after i items. Assumes nothing.
-use Rattle.std.specs.Prelude.{◌≡◌, ℕ, suc, ◌+◌, ◌*◌, ◌<◌, ◌≤◌, List, [], ◌∷◌, length, None, slice_index_or}
-use Rattle.questions.specs.Limits.{most_items, most_roots, most_events}
+use Rattle.std.specs.Prelude.{◌≡◌, ℕ, suc, ◌+◌, ◌*◌, ◌<◌, ◌≤◌, List, [], ◌∷◌, length, None, Ok, slice_index_or}
+use Rattle.questions.specs.Limits.{most_items, most_roots, most_events, no_item}
 use Rattle.grammar.specs.Pattern.{Pattern, size}
 use Rattle.grammar.specs.Schema.{Rooted, candidates, events}
 use Rattle.grammar.specs.Measures.{measure_of, count_capped}
 use Rattle.grammar.specs.declared.measure.Measure.{Measure}
 use Rattle.schema.specs.Bytes.{item_count, root_count}
-use Rattle.schema.specs.Reading.{state, tally_at, pattern_at, earlier, later}
-use Rattle.schema.specs.Questions.{opening, made_at, from, verdict}
+use Rattle.schema.specs.Reading.{state, tally_at, pattern_at, earlier, later, schema_of}
+use Rattle.schema.specs.Questions.{opening, made_at, closing_at, answered, verdict}
 use Rattle.schema.specs.Plans.{plan_of}
 use Rattle.schema.specs.declared.known.Known.{Known}
 use Rattle.schema.specs.declared.progress.Progress.{Progress}
@@ -72,4 +72,4 @@ pub record Taken (b : List ℕ) (s : ℕ) (g : Progress) : Type 0 where
   pub holds : Holds b (item_count b) g
   pub made : KnowsMade b g.scope g.known
   pub scope : g.scope ≡ s
-  pub left : verdict b s ≡ from b s (item_count b) 0
+  pub left : verdict b s ≡ answered (closing_at b s) no_item (Ok (candidates s (schema_of b).roots))

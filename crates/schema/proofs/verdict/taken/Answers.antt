@@ -1,8 +1,8 @@
-use Rattle.std.proofs.Common.{◌≡◌, ◌-◌, ◌<◌, Some, None, sym, ap, ◌∙◌, ap₂, add-one, arith, subst}
+use Rattle.std.proofs.Common.{◌≡◌, ◌-◌, ◌<◌, Some, None, sym, ap, ◌∙◌, add-one, arith, subst}
 use Rattle.schema.specs.Bytes.{item_count}
 use Rattle.schema.specs.Questions.{asks, from}
 use Rattle.schema.specs.Progress.{Holds}
-use Rattle.schema.proofs.Verdicts.{opened, opened_sized, verdict_no, verdict_from, from_no, from_more}
+use Rattle.schema.proofs.Verdicts.{opened, opened_sized, verdict_no, verdict_from, from_no, from_more, from_last}
 use Rattle.schema.proofs.verdict.taken.Goals as goal
 
 pub returns-in-Some : goal.returns-in-Some
@@ -62,7 +62,7 @@ returns c =
         holds = subst (λ i. Holds b i c.loop-i.progress) e c.loop-i.invariant.0;
         made = c.loop-i.invariant.3;
         scope = c.loop-i.invariant.1;
-        left = c.loop-i.invariant.2 ∙ ap₂ (from b s) {x = c.loop-i.i} {y = item_count b} {u = item_count b - c.loop-i.i} {v = 0} e (omega (arith, e));
+        left = c.loop-i.invariant.2 ∙ from_last b s c.loop-i.i e;
       };
       err = tt;
     }
