@@ -1,4 +1,4 @@
-//! Calls for programs in Rust or C, such as the benchmark: numbers and byte slices only.
+//! Calls by numbers and byte slices only. `bridge_c` exports them to Rust and C.
 
 #![tactic(auto)]
 
@@ -13,8 +13,7 @@ use laying::lay;
 use schema::{Checked, Plan, check};
 
 /// The total of a table at a scope; where the table is refused, 2^32 times the question's number, and the item added.
-#[unsafe(no_mangle)]
-pub extern "C" fn mandolkhui_check(table: &[u8], scope: u8) -> u64
+pub fn mandolkhui_check(table: &[u8], scope: u8) -> u64
     ensures { result ≡ packed (verdict table.now scope) }
 {
     let mut plan = Plan::empty();
@@ -37,8 +36,7 @@ fn events_at(schema: &Checked, number: u32) -> u64
 }
 
 /// Lays the candidates from `first` on and below `last`, one after another, and tells how many events that were; 0 for a refused table.
-#[unsafe(no_mangle)]
-pub extern "C" fn mandolkhui_lay(table: &[u8], scope: u8, first: u32, last: u32) -> u64
+pub fn mandolkhui_lay(table: &[u8], scope: u8, first: u32, last: u32) -> u64
     ensures { result ≡ told_events (verdict table.now scope) (events_from table.now scope first (last - first)) }
 {
     let Ok(schema) = Checked::of(table, scope) else {
