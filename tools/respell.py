@@ -4,7 +4,7 @@
 usage: python3 tools/respell.py     at the top of the repository, once, right after the kit's own port script
 
 A name is one that some specs/*.antt or proofs/**/*.antt declares (definitions, lemmas, records, fields, constructors and local
-definitions). A name that begins with a capital is a fact: its parts are joined in camel case. Another name gets an underscore for each
+definitions), or that a source file imports another under. A name that begins with a capital is a fact: its parts are joined in camel case. Another name gets an underscore for each
 dash; a dash stays only in the name of a lemma, before a last word that says what the function before it is applied to. The answers to
 goals keep the names that the check gives them. What is said in pages stays, but for names between backquotes.
 """
@@ -16,6 +16,7 @@ import sys
 DECLARED = re.compile(r"^(\s*)(?:(?:abbrev|unfoldable|pub|data|record)\s+)*([^\s:(){}=.,;]+)\s*(?:\([^)]*\)\s*|\{[^}]*\}\s*)*:\s+(\S+)")
 APPLIED = ("append", "push", "cons")
 OF_LENGTH = "length-"
+IMPORTED = re.compile(r"\bas ([A-Za-z][\w']*(?:-[\w']+)+)")
 ALONE = {"bit-or": "bit-bit_or"}  # `bit_or` is a word of the library
 PAGES = ["README.md", "docs/ARCHITECTURE.md", "docs/DECISIONS.md", "docs/PROMISES.md", "docs/TABLE.md", "docs/TRACES.md"]
 
@@ -36,6 +37,10 @@ def read(path):
 def declared():
     """Each declared name with a dash, and whether some proofs/ declares it at the left margin."""
     names = {}
+    for path in files(".rt"):
+        for line in read(path).splitlines():
+            if line.startswith("ghost use "):
+                names.update((n, False) for n in IMPORTED.findall(line))
     for path in files(".antt"):
         for line in read(path).splitlines():
             m = DECLARED.match(line)
