@@ -93,4 +93,5 @@ def main():
         print(n, r)
 
 
-main()
+if __name__ == "__main__":
+    main()

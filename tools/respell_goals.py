@@ -10,20 +10,9 @@ is `returns-else-self-lt-TEXT_ROOM`; a word of the check that has two parts has 
 import os
 import re
 
+from respell import files, read
+
 WORDS = ["overflow-add", "overflow-sub", "overflow-mul", "overflow-cast", "overflow-step", "nonzero-div", "nonzero-rem", "invariant-of", "type-inv", "in-default", "in-ok", "in-err", "slice-bounds", "offset-bounds"]
-
-
-def files(kind):
-    for folder, inner, names in os.walk("crates"):
-        inner[:] = sorted(d for d in inner if d != "out")
-        for name in sorted(names):
-            if name.endswith(kind):
-                yield os.path.join(folder, name)
-
-
-def read(path):
-    with open(path, encoding="utf-8") as f:
-        return f.read()
 
 
 def main():

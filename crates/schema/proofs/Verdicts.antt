@@ -1,5 +1,5 @@
 -- How the verdict goes on from item to item, and what its questions tell where they have no "no".
-use Rattle.std.proofs.Common.{◌≡◌, ℕ, suc, ◌+◌, ◌-◌, ◌*◌, ◌<◌, ◌≤◌, min, Bool, true, false, cond, ◌&&◌, eqb, leb, ◌≢◌, ◌⊎◌, List, length, get_or, set, Some, None, Ok, Err, Option, sym, refl, ap, ◌∙◌, ap₂, inl, inr, arith, get_or-set_other, get_or-set_same}
+use Rattle.std.proofs.Common.{◌≡◌, ℕ, suc, ◌+◌, ◌-◌, ◌*◌, ◌<◌, ◌≤◌, min, Bool, true, false, cond, ◌&&◌, eqb, leb, ◌≢◌, ◌⊎◌, List, length, get_or, set, Some, None, Ok, Err, Option, sym, refl, ap, ◌∙◌, subst, ap₂, inl, inr, arith, get_or-set_other, get_or-set_same}
 use Rattle.std.proofs.lemmas.Bool.{and_parts, leb-true, eqb-true, lt-leb, cases_lt}
 use Rattle.questions.specs.Limits.{most_items, most_roots, most_scope, most_candidates, most_events, no_item}
 use Rattle.questions.specs.declared.question.Question.{Question}
@@ -69,33 +69,31 @@ pub asks_sized : (b : List ℕ) (s i : ℕ) → asked_at b s i ≡ None → shar
 unfolding asks
 asks_sized b s i e f = ap₂ (λ o u. first_no o (first_no u (sized_at b s i))) e f
 
+-- one more measure: what the first n say of each place with Q, one more says too
+one_more_says : (f : ℕ → Measure) (Q : ℕ → Type 0) (n : ℕ) (ms : List Measure) (m : Measure) → n < length ms → (Q n → m ≡ f n)
+    → ((j : ℕ) → j < n → Q j → get_or ms j no_measure ≡ f j) → (j : ℕ) → j < n + 1 → Q j → get_or (set ms n m) j no_measure ≡ f j
+one_more_says f Q n ms m room last firsts j h q = go (cases_lt j n)
+  where
+    go : (j < n) ⊎ (n ≤ j) → get_or (set ms n m) j no_measure ≡ f j
+    go (inl lt) = let ne : j ≢ n = omega arith in rw get_or-set_other (firsts j lt q)
+    go (inr le) =
+        let e : j ≡ n = omega arith in
+        ap (λ x. get_or (set ms n m) x no_measure) e ∙ (get_or-set_same ms n m no_measure room ∙ (last (subst Q e q) ∙ ap f (sym e)))
+
 -- one more measure is known
 pub known-push : (b : List ℕ) (s i : ℕ) (k l : Known) (m : Measure) → Knows b s k → k.len ≡ i → i < most_items → length k.measures ≡ most_items
     → m ≡ measure_of s (made_at b i) → l.len ≡ k.len + 1 → l.measures ≡ set k.measures k.len m → Knows b s l
 known-push b s i k l m kn e lt n me le lm =
-    record { few = omega arith; right = λ j h en. rw lm (go j (cases_lt j k.len) h en) }
-  where
-    go : (j : ℕ) → (j < k.len) ⊎ (k.len ≤ j) → j < l.len → Ends b j → get_or (set k.measures k.len m) j no_measure ≡ measure_of s (pattern_at b j)
-    go j (inl h) _ en = let ne : j ≢ k.len = omega arith in rw get_or-set_other (kn.right j h en)
-    go j (inr h) u en =
-        let f : j ≡ k.len = omega arith in
-        let a : k.len < length k.measures = omega arith in
-        ap (λ x. get_or (set k.measures k.len m) x no_measure) f
-        ∙ (get_or-set_same k.measures k.len m no_measure a ∙ (me ∙ ap (measure_of s) (ap (made_at b) (sym (f ∙ e)) ∙ made_ends b j en)))
+    let last = λ (en : Ends b k.len). me ∙ ap (measure_of s) (ap (made_at b) (sym e) ∙ made_ends b k.len en) in
+    record { few = omega arith; right = λ j h en. rw lm (one_more_says (λ x. measure_of s (pattern_at b x)) (Ends b) k.len k.measures m (omega arith) last kn.right j (omega arith) en) }
 
 -- and of what each item makes
 pub made-push : (b : List ℕ) (s i : ℕ) (k l : Known) (m : Measure) → KnowsMade b s k → k.len ≡ i → i < most_items → length k.measures ≡ most_items
     → m ≡ measure_of s (made_at b i) → l.len ≡ k.len + 1 → l.measures ≡ set k.measures k.len m → KnowsMade b s l
 made-push b s i k l m kn e lt n me le lm =
-    record { few = omega arith; right = λ j h. rw lm (go j (cases_lt j k.len) h) }
-  where
-    go : (j : ℕ) → (j < k.len) ⊎ (k.len ≤ j) → j < l.len → get_or (set k.measures k.len m) j no_measure ≡ measure_of s (made_at b j)
-    go j (inl h) _ = let ne : j ≢ k.len = omega arith in rw get_or-set_other (kn.right j h)
-    go j (inr h) u =
-        let f : j ≡ k.len = omega arith in
-        let a : k.len < length k.measures = omega arith in
-        ap (λ x. get_or (set k.measures k.len m) x no_measure) f
-        ∙ (get_or-set_same k.measures k.len m no_measure a ∙ (me ∙ ap (λ x. measure_of s (made_at b x)) (sym (f ∙ e))))
+    let last = λ (u : Unit {0}). me ∙ ap (λ x. measure_of s (made_at b x)) (sym e) in
+    let firsts = λ (j : ℕ) (h : j < k.len) (u : Unit {0}). kn.right j h in
+    record { few = omega arith; right = λ j h. rw lm (one_more_says (λ x. measure_of s (made_at b x)) (λ _. Unit {0}) k.len k.measures m (omega arith) last firsts j (omega arith) tt) }
 
 -- Questions 1 to 3.
 

@@ -66,7 +66,7 @@ pub record Holds (b : List ℕ) (i : ℕ) (g : Progress) : Type 0 where
   pub known : g.known.len ≡ i
   pub right : Knows b g.scope g.known
 
--- all items have passed, and the questions of the whole are left
+-- all items passed questions 4 to 9, and only questions 10 to 12, of the whole table, are left
 pub record Taken (b : List ℕ) (s : ℕ) (g : Progress) : Type 0 where
   pub opens : opening b s ≡ None
   pub holds : Holds b (item_count b) g

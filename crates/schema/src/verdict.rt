@@ -13,7 +13,7 @@ use items::ask_whole;
 use questions::Refusal;
 use questions::limits::NO_ITEM;
 
-/// Asks questions 1 to 9, and takes all items.
+/// Asks questions 1 to 9: how far the check has come after the last item, or the first question that fails.
 pub(crate) fn taken(table: &[u8], scope: u8) -> Result<Progress, Refusal>
     ensures ok { IfOk result (Taken table.now scope) }
     ensures err { IfErr result (λ refusal. verdict table.now scope ≡ Err refusal) }
