@@ -10,6 +10,7 @@ ghost use Rattle.schema.specs.Questions.{verdict};
 ghost use Rattle.schema.specs.Told.{table_of};
 
 use laying::lay;
+use questions::limits::NO_ITEM;
 use schema::{Checked, Plan, check};
 
 /// The total of a table at a scope; where the table is refused, 2^32 times the question's number, and the item added.
@@ -20,7 +21,7 @@ pub fn mandolkhui_check(table: &[u8], scope: u8) -> u64
     match check(table, scope, &mut plan) {
         Ok(total) => u64::from(total),
         Err(refusal) => u64::from(refusal.question.number()) * 0x1_0000_0000
-            + u64::from(refusal.item),
+            + u64::from(refusal.item.unwrap_or(NO_ITEM)),
     }
 }
 

@@ -10,7 +10,7 @@ use questions::limits::{MOST_CANDIDATES, MOST_EVENTS, MOST_ITEMS, SCOPE_MARK};
 const OVER_CANDIDATES: u32 = MOST_CANDIDATES + 1;
 
 /// A pattern's measure. Each number stops one past its limit, so that it says whether the limit is passed and never overflows.
-#[derive(Clone, Copy)]
+#[derive(Clone, Copy, Default)]
 pub struct Measure {
     pub items: u16,
     pub count: u32,

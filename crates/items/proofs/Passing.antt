@@ -1,8 +1,7 @@
 -- What it tells of an item that questions 4 to 6 have no "no", and back.
-use Rattle.std.proofs.Common.{◌≡◌, ℕ, zero, suc, ◌+◌, ◌*◌, ◌/◌, ◌%◌, ◌<◌, ◌≤◌, Bool, true, false, cond, ◌&&◌, ◌||◌, eqb, ltb, leb, ◌⊎◌, Some, None, Option, sym, refl, ap, ◌∙◌, ap₂, inl, inr, arith}
+use Rattle.std.proofs.Common.{◌≡◌, ℕ, zero, suc, ◌+◌, ◌*◌, ◌/◌, ◌%◌, ◌<◌, ◌≤◌, Bool, true, false, cond, ◌&&◌, ◌||◌, eqb, ltb, leb, ◌⊎◌, Err, sym, refl, ap, ◌∙◌, ap₂, inl, inr, arith}
 use Rattle.std.proofs.lemmas.Bool.{and_parts, and_from, or_cases, or_left, or_right, ltb-true, leb-true, eqb-true, lt-ltb, le-leb, eq-eqb, ne_eqb}
 use Rattle.questions.specs.Limits.{most_type, most_times, scope_mark, most_events}
-use Rattle.questions.specs.declared.question.Question.{Question}
 use Rattle.questions.specs.declared.question.Question.TheVariants.{Kind, Argument, Takes}
 use Rattle.grammar.specs.Pattern.{most}
 use Rattle.grammar.specs.Fits.{Repeats, Selects}
@@ -10,7 +9,7 @@ use Rattle.grammar.specs.declared.part.Order.TheVariants.{InOrder, AsSet}
 use Rattle.grammar.specs.declared.part.Relation.TheVariants.{Share, Coordinate, AsMany, NoMore, FewerBefore}
 use Rattle.grammar.specs.declared.part.Selection.{Selection}
 use Rattle.items.specs.Items.{item_of, kind_of, argument_of}
-use Rattle.items.specs.Asked.{known, counts_suit, pick_suits, suits, finds, asked}
+use Rattle.items.specs.Asked.{Answer, passes, known, counts_suit, pick_suits, suits, finds, asked}
 use Rattle.items.specs.declared.ask.Tally.{Tally}
 use Rattle.items.specs.declared.item.Item.{Item}
 use Rattle.items.specs.declared.item.Item.TheVariants.{Nothing, Atom, Event, Both, Either, Repeat, Root, Pick, Relate, AtMost, Unknown}
@@ -142,17 +141,17 @@ module _ (s : ℕ) (t : Tally) where
     pub suited : Suited s t.roots it
     pub found : Found t it
 
-  pub asked_passed : (it : Item) (a : ℕ) → asked s t it a ≡ None → Passed it a
+  pub asked_passed : (it : Item) (a : ℕ) → asked s t it a ≡ passes → Passed it a
   asked_passed it a e = go (known it) refl (suits s t.roots it a) refl (finds t it) refl e
     where
       go : (x : Bool) → known it ≡ x → (y : Bool) → suits s t.roots it a ≡ y → (z : Bool) → finds t it ≡ z
-          → ◌≡◌ {A = Option Question} (cond x (cond y (cond z None (Some Takes)) (Some Argument)) (Some Kind)) None → Passed it a
+          → ◌≡◌ {A = Answer} (cond x (cond y (cond z passes (Err Takes)) (Err Argument)) (Err Kind)) passes → Passed it a
       go true ex true ey true ez h = record { known = ex; suits = ey; suited = suited it a ey; found = found it ez }
       go true ex true ey false ez h = let n : ◌≡◌ {A = ℕ} 0 1 = cc in absurd (omega arith)
       go true ex false ey z ez h = let n : ◌≡◌ {A = ℕ} 0 1 = cc in absurd (omega arith)
       go false ex y ey z ez h = let n : ◌≡◌ {A = ℕ} 0 1 = cc in absurd (omega arith)
 
-  pub asked_says : (k a : ℕ) → asked s t (item_of k a) a ≡ None → (kind_of (item_of k a) ≡ k) × (argument_of (item_of k a) ≡ a)
+  pub asked_says : (k a : ℕ) → asked s t (item_of k a) a ≡ passes → (kind_of (item_of k a) ≡ k) × (argument_of (item_of k a) ≡ a)
   asked_says k a e = let p = asked_passed (item_of k a) a e in says k a p.known p.suits
 
   -- The other way: such an item has no "no".
@@ -202,10 +201,10 @@ module _ (s : ℕ) (t : Tally) where
   finds_back (AtMost n) f = late_back 1 f
   finds_back Unknown f = absurd f
 
-  pub passed_asked : (it : Item) → Suited s t.roots it → Found t it → asked s t it (argument_of it) ≡ None
+  pub passed_asked : (it : Item) → Suited s t.roots it → Found t it → asked s t it (argument_of it) ≡ passes
   passed_asked it u f = three (known it) (suits s t.roots it (argument_of it)) (finds t it) (known_back it u) (suits_back it u) (finds_back it f)
     where
-      three : (x y z : Bool) → x ≡ true → y ≡ true → z ≡ true → ◌≡◌ {A = Option Question} (cond x (cond y (cond z None (Some Takes)) (Some Argument)) (Some Kind)) None
+      three : (x y z : Bool) → x ≡ true → y ≡ true → z ≡ true → ◌≡◌ {A = Answer} (cond x (cond y (cond z passes (Err Takes)) (Err Argument)) (Err Kind)) passes
       three x y z a b c = rw (a, b, c) refl
 
 -- the two bytes of 16 bits

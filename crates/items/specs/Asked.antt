@@ -1,5 +1,5 @@
 -- The questions that are asked of numbers alone, and the first of them that fails. Assumes nothing.
-use Rattle.std.specs.Prelude.{ℕ, Bool, true, false, cond, ◌&&◌, ◌||◌, Some, None, Option, ◌==◌, nat_le, nat_lt}
+use Rattle.std.specs.Prelude.{ℕ, Bool, true, false, cond, ◌&&◌, ◌||◌, Ok, Err, Result, ◌==◌, nat_le, nat_lt}
 use Rattle.questions.specs.Limits.{most_type, most_times, scope_mark, most_candidates, most_events}
 use Rattle.questions.specs.declared.question.Question.{Question}
 use Rattle.questions.specs.declared.question.Question.TheVariants.{Kind, Argument, Takes, Count, Length, Whole, Total, Events}
@@ -8,6 +8,13 @@ use Rattle.grammar.specs.declared.part.Selection.{Selection}
 use Rattle.items.specs.declared.ask.Tally.{Tally}
 use Rattle.items.specs.declared.item.Item.{Item}
 use Rattle.items.specs.declared.item.Item.TheVariants.{Nothing, Atom, Event, Both, Either, Repeat, Root, Pick, Relate, AtMost, Unknown}
+
+-- what a question answers: nothing, or that it fails
+abbrev pub Answer : Type 0
+Answer = Result (Unit {0}) Question
+
+abbrev pub passes : Answer
+passes = Ok tt
 
 -- Questions 4 to 6, of an item with argument a at scope s.
 
@@ -59,16 +66,16 @@ finds t (Relate o) = t.closed == t.roots && t.picks == 2
 finds t (AtMost n) = t.closed == t.roots && t.picks == 1
 finds t Unknown = false
 
-abbrev pub asked : ℕ → Tally → Item → ℕ → Option Question
-asked s t it a = cond (known it) (cond (suits s t.roots it a) (cond (finds t it) None (Some Takes)) (Some Argument)) (Some Kind)
+abbrev pub asked : ℕ → Tally → Item → ℕ → Answer
+asked s t it a = cond (known it) (cond (suits s t.roots it a) (cond (finds t it) passes (Err Takes)) (Err Argument)) (Err Kind)
 
 -- Questions 8 and 9, of a count and a length.
 
-abbrev pub sized : ℕ → ℕ → Option Question
-sized n l = cond (nat_le n most_candidates) (cond (nat_le l most_events) None (Some Length)) (Some Count)
+abbrev pub sized : ℕ → ℕ → Answer
+sized n l = cond (nat_le n most_candidates) (cond (nat_le l most_events) passes (Err Length)) (Err Count)
 
 -- Questions 10 to 12, of a total and a sum of lengths.
 
-abbrev pub closing : Tally → ℕ → ℕ → Option Question
+abbrev pub closing : Tally → ℕ → ℕ → Answer
 closing t n l =
-    cond (t.closed == t.roots && (t.patterns == 0 && t.picks == 0)) (cond (nat_le n most_candidates) (cond (nat_le l most_events) None (Some Events)) (Some Total)) (Some Whole)
+    cond (t.closed == t.roots && (t.patterns == 0 && t.picks == 0)) (cond (nat_le n most_candidates) (cond (nat_le l most_events) passes (Err Events)) (Err Total)) (Err Whole)

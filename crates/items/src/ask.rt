@@ -35,61 +35,61 @@ fn pick_suits(roots: usize, x: Selection) -> bool
 }
 
 /// Questions 4 to 6, of an item with its argument.
-pub fn ask_item(scope: u8, tally: Tally, item: Item, argument: u16) -> Option<Question>
+pub fn ask_item(scope: u8, tally: Tally, item: Item, argument: u16) -> Result<(), Question>
     ensures { result ≡ asked scope tally item argument }
 {
     match (item, argument) {
-        (Item::Unknown, _) => Some(Question::Kind),
-        (Item::Nothing | Item::Both(_) | Item::Either | Item::Relate(_), 1..) => Some(
+        (Item::Unknown, _) => Err(Question::Kind),
+        (Item::Nothing | Item::Both(_) | Item::Either | Item::Relate(_), 1..) => Err(
             Question::Argument,
         ),
-        (Item::Atom(t) | Item::Event(t) | Item::Root(t), _) if t > MOST_TYPE => Some(
+        (Item::Atom(t) | Item::Event(t) | Item::Root(t), _) if t > MOST_TYPE => Err(
             Question::Argument,
         ),
-        (Item::Repeat(_, least, most), _) if !counts_suit(scope, least, most) => Some(
+        (Item::Repeat(_, least, most), _) if !counts_suit(scope, least, most) => Err(
             Question::Argument,
         ),
-        (Item::Pick(x), _) if !pick_suits(tally.roots, x) => Some(Question::Argument),
-        (Item::AtMost(n), _) if u32::from(n) > MOST_EVENTS => Some(Question::Argument),
+        (Item::Pick(x), _) if !pick_suits(tally.roots, x) => Err(Question::Argument),
+        (Item::AtMost(n), _) if u32::from(n) > MOST_EVENTS => Err(Question::Argument),
         (Item::Pick(_) | Item::Relate(_) | Item::AtMost(_), _) if tally.closed != tally.roots =>
-            Some(Question::Takes),
-        (Item::Pick(_), _) if tally.picks > 1 => Some(Question::Takes),
-        (Item::Relate(_), _) if tally.picks != 2 => Some(Question::Takes),
-        (Item::AtMost(_), _) if tally.picks != 1 => Some(Question::Takes),
-        (Item::Pick(_) | Item::Relate(_) | Item::AtMost(_), _) => None,
-        (_, _) if tally.closed >= tally.roots => Some(Question::Takes),
-        (Item::Event(_) | Item::Repeat(_, _, _), _) if tally.patterns < 1 => Some(Question::Takes),
-        (Item::Both(_) | Item::Either, _) if tally.patterns < 2 => Some(Question::Takes),
-        (Item::Root(_), _) if tally.patterns != 1 => Some(Question::Takes),
-        (_, _) => None,
+            Err(Question::Takes),
+        (Item::Pick(_), _) if tally.picks > 1 => Err(Question::Takes),
+        (Item::Relate(_), _) if tally.picks != 2 => Err(Question::Takes),
+        (Item::AtMost(_), _) if tally.picks != 1 => Err(Question::Takes),
+        (Item::Pick(_) | Item::Relate(_) | Item::AtMost(_), _) => Ok(()),
+        (_, _) if tally.closed >= tally.roots => Err(Question::Takes),
+        (Item::Event(_) | Item::Repeat(_, _, _), _) if tally.patterns < 1 => Err(Question::Takes),
+        (Item::Both(_) | Item::Either, _) if tally.patterns < 2 => Err(Question::Takes),
+        (Item::Root(_), _) if tally.patterns != 1 => Err(Question::Takes),
+        (_, _) => Ok(()),
     }
 }
 
 /// Questions 8 and 9, of what a pattern or a root measures.
-pub fn ask_measure(m: Measure) -> Option<Question>
+pub fn ask_measure(m: Measure) -> Result<(), Question>
     ensures { result ≡ sized m.count m.length }
 {
     if m.count > MOST_CANDIDATES {
-        return Some(Question::Count);
+        return Err(Question::Count);
     }
     if u32::from(m.length) > MOST_EVENTS {
-        return Some(Question::Length);
+        return Err(Question::Length);
     }
-    None
+    Ok(())
 }
 
 /// Questions 10 to 12, of what all items leave: the total and the sum of the root lengths.
-pub fn ask_whole(tally: Tally, total: u32, length: u32) -> Option<Question>
+pub fn ask_whole(tally: Tally, total: u32, length: u32) -> Result<(), Question>
     ensures { result ≡ closing tally total length }
 {
     if tally.closed != tally.roots || tally.patterns != 0 || tally.picks != 0 {
-        return Some(Question::Whole);
+        return Err(Question::Whole);
     }
     if total > MOST_CANDIDATES {
-        return Some(Question::Total);
+        return Err(Question::Total);
     }
     if length > MOST_EVENTS {
-        return Some(Question::Events);
+        return Err(Question::Events);
     }
-    None
+    Ok(())
 }

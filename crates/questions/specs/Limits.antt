@@ -36,6 +36,6 @@ most_candidates = 1000000
 abbrev pub most_events : ℕ
 most_events = 64
 
--- the item of a refusal whose question was not asked of an item
+-- what a refusal shows for its item where its question was not asked of one
 abbrev pub no_item : ℕ
 no_item = 255

@@ -1,5 +1,6 @@
 -- The numbers of the questions, and the line that shows a refusal. Assumes nothing.
-use Rattle.std.specs.Prelude.{ℕ, List, ◌++◌, codes, decimal}
+use Rattle.std.specs.Prelude.{ℕ, List, ◌++◌, Some, None, codes, decimal, Option}
+use Rattle.questions.specs.Limits.{no_item}
 use Rattle.questions.specs.declared.question.Question.{Question}
 use Rattle.questions.specs.declared.question.Question.TheVariants.{Bytes, Sizes, Scope, Kind, Argument, Takes, Sharing, Count, Length, Whole, Total, Events}
 use Rattle.questions.specs.declared.refusal.Refusal.{Refusal}
@@ -18,6 +19,14 @@ number_of Whole = 10
 number_of Total = 11
 number_of Events = 12
 
+-- the refusal by a question that is not asked of an item
+abbrev pub of_no_item : Question → Refusal
+of_no_item q = record { question = q; item = None }
+
+abbrev pub item_shown : Option ℕ → ℕ
+item_shown (Some i) = i
+item_shown None = no_item
+
 -- `no QUESTION ITEM`
 abbrev pub refusal_line : Refusal → List ℕ
-refusal_line r = codes "no " ++ (decimal (number_of r.question) ++ (codes " " ++ decimal r.item))
+refusal_line r = codes "no " ++ (decimal (number_of r.question) ++ (codes " " ++ decimal (item_shown r.item)))

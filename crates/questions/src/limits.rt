@@ -30,5 +30,5 @@ pub const MOST_EVENTS: u32 = 64;
 /// The same, as the length of an array.
 pub const EVENT_PLACES: usize = MOST_EVENTS as usize;
 
-/// The item of a refusal whose question was not asked of an item.
+/// What a refusal shows for its item where its question was not asked of one.
 pub const NO_ITEM: u8 = 255;

@@ -1,25 +1,39 @@
 //! A refusal, and the line that shows it.
 
-ghost use Rattle.std.specs.Prelude.{Some};
+ghost use Rattle.std.specs.Prelude.{◌≡◌, Some};
+ghost use Rattle.questions.specs.Numbers.{of_no_item};
 ghost use Rattle.questions.specs.Numbers.{refusal_line};
 
+use crate::limits::NO_ITEM;
 use crate::question::Question;
 use std::fmt;
 
-/// The first question that failed, and the index of the item that it was asked of. An item of 255 says that it was not asked of one.
+/// The first question that failed, and the index of the item that it was asked of, if it was asked of one.
 #[derive(Clone, Copy, PartialEq, Eq)]
 pub struct Refusal {
     pub question: Question,
-    pub item: u8,
+    pub item: Option<u8>,
 }
 
-/// `no QUESTION ITEM`, in decimal.
+/// A question that is not asked of an item.
+impl From<Question> for Refusal {
+    ghost from_gives = { λ q r. r ≡ of_no_item q };
+
+    fn from(question: Question) -> Refusal {
+        Refusal {
+            question,
+            item: None,
+        }
+    }
+}
+
+/// `no QUESTION ITEM`, in decimal, with 255 for no item.
 impl fmt::Display for Refusal {
     ghost output = { λ r. Some (refusal_line r) };
 
     fn fmt<W: fmt::Write>(&self, f: &mut fmt::Formatter<W>) -> fmt::Result {
         let question = self.question.number();
-        let item = self.item;
+        let item = self.item.unwrap_or(NO_ITEM);
         write!(f, "no {question} {item}")
     }
 }

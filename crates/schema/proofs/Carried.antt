@@ -1,23 +1,23 @@
 -- What a check knows at its end, what a checked table carries of it, and what follows again.
-use Rattle.std.proofs.Common.{◌≡◌, ℕ, suc, ◌+◌, ◌-◌, ◌≤◌, List, [], ◌∷◌, length, get_or, replicate, Some, None, Ok, Err, Result, sym, refl, ap, ◌∙◌, subst, ap₂, arith, length-append}
+use Rattle.std.proofs.Common.{◌≡◌, ℕ, suc, ◌+◌, ◌-◌, ◌≤◌, List, [], ◌∷◌, length, get_or, replicate, None, Ok, Err, Result, sym, refl, ap, ◌∙◌, subst, ap₂, arith, length-append}
 use Rattle.std.proofs.lemmas.List.{get_or_append_left, get_or_past, length-replicate}
-use Rattle.questions.specs.Limits.{no_item, most_roots}
+use Rattle.arrayvec.specs.ArrayVec.{ArrayVec, array_vec_len}
+use Rattle.questions.specs.Limits.{most_roots}
 use Rattle.questions.specs.declared.question.Question.{Question}
 use Rattle.questions.specs.declared.refusal.Refusal.{Refusal}
 use Rattle.grammar.specs.Pattern.{size}
 use Rattle.grammar.specs.Schema.{Rooted, candidates, events}
 use Rattle.grammar.specs.declared.measure.Measure.{Measure}
-use Rattle.items.specs.Asked.{closing}
+use Rattle.items.specs.Asked.{passes, closing}
 use Rattle.schema.specs.Bytes.{item_count}
 use Rattle.schema.specs.Reading.{state, tally_at, schema_of}
 use Rattle.schema.specs.Plans.{no_root, entries, plan_of}
 use Rattle.schema.specs.Questions.{closing_at, answered, verdict}
-use Rattle.schema.specs.Progress.{KnowsMade, Taken}
+use Rattle.schema.specs.Progress.{KnowsMade, Taken, Passed}
 use Rattle.schema.specs.Sound.{Planned, Sound, no_rooted, total_in, Accepts, numbers_of_root, numbers_of_roots, PlansRoots, numbers_of_measure, MeasuresAll}
 use Rattle.schema.specs.Told.{table_of}
 use Rattle.schema.specs.Writing.{operations_written}
 use Rattle.schema.specs.declared.checked.Checked.{Checked}
-use Rattle.schema.specs.declared.known.Known.{Known}
 use Rattle.schema.specs.declared.plan.Plan.{Plan}
 use Rattle.schema.specs.declared.plan.Root.{Root}
 use Rattle.schema.specs.declared.progress.Progress.{Progress}
@@ -28,43 +28,40 @@ use Rattle.schema.proofs.Verdicts.{closing_is, ended, opened_sized}
 
 -- From the end of a check.
 
-pub record Ready (b : List ℕ) (g : Progress) : Type 0 where
-  pub accepted : verdict b g.scope ≡ Ok g.total
-  pub plan : g.plan ≡ plan_of g.scope (schema_of b).roots
-  pub all : g.known.len ≡ item_count b
-  pub right : KnowsMade b g.scope g.known
-
-pub ready : (b : List ℕ) (s : ℕ) (g : Progress) → Taken b s g → closing g.tally g.total g.length ≡ None → Ready b g
-ready b s g h n =
+pub whole_yes : (b : List ℕ) (s : ℕ) (g : Progress) → Taken b s g → closing g.tally g.total g.length ≡ passes → Passed b s g
+whole_yes b s g h n =
     let i = item_count b in
     let d = ended g.tally g.total g.length n in
     let c = h.holds.counted in
-    let k : closing_at b s ≡ None = ap (closing_at b) (sym h.scope) ∙ (sym (closing_is b i g c refl) ∙ n) in
+    let k : closing_at b s ≡ passes = ap (closing_at b) (sym h.scope) ∙ (sym (closing_is b i g c refl) ∙ n) in
     let t : g.total ≡ candidates g.scope (state b i).roots = omega (arith, d.total, c.total) in
     let t2 : g.total ≡ candidates s (schema_of b).roots = t ∙ ap (λ x. candidates x (state b i).roots) h.scope in
     record {
-      accepted = ap (verdict b) h.scope ∙ (h.left ∙ (ap (λ o. answered o no_item (Ok (candidates s (schema_of b).roots))) k ∙ ap Ok (sym t2)));
-      plan = c.plan;
+      opens = h.opens;
+      accepted = h.left ∙ (ap (λ o. answered o None (Ok (candidates s (schema_of b).roots))) k ∙ ap Ok (sym t2));
+      plan = c.plan ∙ ap (λ x. plan_of x (schema_of b).roots) h.scope;
       all = h.holds.known;
-      right = h.made;
+      made = subst (λ x. KnowsMade b x g.known) h.scope h.made;
+      scope = h.scope;
     }
 
 -- a question of the whole fails
-pub whole_no : (b : List ℕ) (s : ℕ) (g : Progress) (q : Question) → Taken b s g → closing g.tally g.total g.length ≡ Some q → verdict b s ≡ Err (record { question = q; item = no_item })
+pub whole_no : (b : List ℕ) (s : ℕ) (g : Progress) (q : Question) → Taken b s g → closing g.tally g.total g.length ≡ Err q → verdict b s ≡ Err (record { question = q; item = None })
 whole_no b s g q h n =
-    let k : closing_at b s ≡ Some q = ap (closing_at b) (sym h.scope) ∙ (sym (closing_is b (item_count b) g h.holds.counted refl) ∙ n) in
-    h.left ∙ ap (λ o. answered o no_item (Ok (candidates s (schema_of b).roots))) k
+    let k : closing_at b s ≡ Err q = ap (closing_at b) (sym h.scope) ∙ (sym (closing_is b (item_count b) g h.holds.counted refl) ∙ n) in
+    h.left ∙ ap (λ o. answered o None (Ok (candidates s (schema_of b).roots))) k
 
 -- What is carried.
 
-pub carried : (b c : List ℕ) (g : Progress) → c ≡ b → Ready b g → Accepts c g.scope g.total × PlansRoots c g.scope g.plan × (g.known.len ≡ item_count c) × MeasuresAll c g.scope g.known
-carried b c g e r =
-    subst (λ x. Accepts x g.scope g.total × PlansRoots x g.scope g.plan × (g.known.len ≡ item_count x) × MeasuresAll x g.scope g.known) (sym e) (
+pub carried : (b c : List ℕ) (s : ℕ) (g : Progress) → c ≡ b → Passed b s g → Accepts c g.scope g.total × PlansRoots c g.scope g.plan × (array_vec_len g.known ≡ item_count c) × MeasuresAll c g.scope g.known
+carried b c s g e r =
+    subst (λ x. Accepts x g.scope g.total × PlansRoots x g.scope g.plan × (array_vec_len g.known ≡ item_count x) × MeasuresAll x g.scope g.known) (sym e)
+    (subst (λ x. Accepts b x g.total × PlansRoots b x g.plan × (array_vec_len g.known ≡ item_count b) × MeasuresAll b x g.known) (sym r.scope) (
       ap total_in r.accepted,
       ap (λ (p : Plan). numbers_of_roots p.roots) r.plan,
       r.all,
-      λ j lt. ap numbers_of_measure (r.right.right j lt),
-    )
+      λ j lt. ap numbers_of_measure (r.made.right j lt),
+    ))
 
 -- And what follows again.
 
@@ -100,7 +97,7 @@ length-entries : (s i : ℕ) (rs : List Rooted) → length (entries s i rs) ≡ 
 length-entries s i [] = refl
 length-entries s i (r ∷ rs) = ap suc (length-entries s (i + size r.pattern + 1) rs)
 
-pub sound : (b : List ℕ) (s t : ℕ) (p : Plan) (k : Known) → Bytes b → Accepts b s t → PlansRoots b s p → k.len ≡ item_count b → MeasuresAll b s k → Sound b s t p k
+pub sound : (b : List ℕ) (s t : ℕ) (p : Plan) (k : ArrayVec Measure) → Bytes b → Accepts b s t → PlansRoots b s p → array_vec_len k ≡ item_count b → MeasuresAll b s k → Sound b s t p k
 unfolding closing_at
 sound b s t p k bytes a ps l ms =
     let v = told_total (verdict b s) t a in

@@ -1,5 +1,5 @@
 -- How the counts of a check go on with one more item.
-use Rattle.std.proofs.Common.{◌≡◌, ℕ, suc, ◌+◌, ◌-◌, ◌*◌, ◌<◌, ◌≤◌, ◌⊎◌, List, [], ◌∷◌, ◌++◌, length, set, replicate, None, sym, refl, ap, ◌∙◌, ap₂, inl, inr, mul_assoc, mul_comm, arith, length-append}
+use Rattle.std.proofs.Common.{◌≡◌, ℕ, suc, ◌+◌, ◌-◌, ◌*◌, ◌<◌, ◌≤◌, ◌⊎◌, List, [], ◌∷◌, ◌++◌, length, set, replicate, sym, refl, ap, ◌∙◌, ap₂, inl, inr, mul_assoc, mul_comm, arith, length-append}
 use Rattle.questions.specs.Limits.{most_roots, most_candidates, most_events}
 use Rattle.grammar.specs.Pattern.{Pattern, event, count, len, size}
 use Rattle.grammar.specs.Schema.{Rooted, candidates, events}
@@ -18,7 +18,7 @@ use Rattle.items.specs.declared.item.Item.TheVariants.{Nothing, Atom, Event, Bot
 use Rattle.schema.specs.declared.plan.Plan.{Plan}
 use Rattle.schema.specs.declared.plan.Root.{Root as Entry}
 use Rattle.schema.specs.declared.progress.Progress.{Progress}
-use Rattle.items.specs.Asked.{asked}
+use Rattle.items.specs.Asked.{passes, asked}
 use Rattle.schema.specs.Questions.{asked_at}
 use Rattle.items.specs.declared.ask.Tally.{Tally}
 use Rattle.items.proofs.Passing.{Suited, Found, asked_passed}
@@ -154,11 +154,11 @@ pub record Same (g h : Progress) : Type 0 where
   pub plan : h.plan ≡ g.plan
 
 -- what questions 4 to 6 tell of item i
-pub suited_at : (b : List ℕ) (s i : ℕ) (it : Item) → asked_at b s i ≡ None → it ≡ item_at b i → Suited s (root_count b) it
+pub suited_at : (b : List ℕ) (s i : ℕ) (it : Item) → asked_at b s i ≡ passes → it ≡ item_at b i → Suited s (root_count b) it
 unfolding asked_at
 suited_at b s i it e is = (asked_passed s (tally_at b i) it (argument_at b i) (ap (λ x. asked s (tally_at b i) x (argument_at b i)) is ∙ e)).suited
 
-pub found_at : (b : List ℕ) (s i : ℕ) (it : Item) → asked_at b s i ≡ None → it ≡ item_at b i → Found (tally_at b i) it
+pub found_at : (b : List ℕ) (s i : ℕ) (it : Item) → asked_at b s i ≡ passes → it ≡ item_at b i → Found (tally_at b i) it
 unfolding asked_at
 found_at b s i it e is = (asked_passed s (tally_at b i) it (argument_at b i) (ap (λ x. asked s (tally_at b i) x (argument_at b i)) is ∙ e)).found
 
@@ -206,26 +206,26 @@ module _ (b : List ℕ) (i : ℕ) (g : Progress) (c : Counted b i g) where
       same_tally r d e f = cc
 
   -- the same by the arms of the code: an item that adds a pattern, one that changes one, and one that joins two
-  by_kind : (it x : Item) → it ≡ item_at b i → it ≡ x → Builds x → asked_at b g.scope i ≡ None → (h : Progress)
+  by_kind : (it x : Item) → it ≡ item_at b i → it ≡ x → Builds x → asked_at b g.scope i ≡ passes → (h : Progress)
       → h.tally ≡ tallied g.tally.roots g.tally.closed (left x g.tally.patterns) g.tally.picks → h.earlier ≡ g.earlier → h.later ≡ g.later → Same g h → Counted b (suc i) h
   by_kind it x is e bu pa = let ix = sym e ∙ is in builds x ix bu (found_at b g.scope i x pa ix)
 
-  pub adds : (it : Item) → it ≡ item_at b i → asked_at b g.scope i ≡ None → (it ≡ Nothing) ⊎ ((t : ℕ) × (it ≡ Atom t)) → (h : Progress)
+  pub adds : (it : Item) → it ≡ item_at b i → asked_at b g.scope i ≡ passes → (it ≡ Nothing) ⊎ ((t : ℕ) × (it ≡ Atom t)) → (h : Progress)
       → h.tally ≡ tallied g.tally.roots g.tally.closed (g.tally.patterns + 1) g.tally.picks → h.earlier ≡ g.earlier → h.later ≡ g.later → Same g h → Counted b (suc i) h
   adds it is pa (inl e) = by_kind it Nothing is e tt pa
   adds it is pa (inr e) = by_kind it (Atom e.0) is e.1 tt pa
 
-  pub changes : (it : Item) → it ≡ item_at b i → asked_at b g.scope i ≡ None → ((t : ℕ) × (it ≡ Event t)) ⊎ ((o : Order) × (x : ℕ) × (y : ℕ) × (it ≡ Repeat o x y)) → (h : Progress)
+  pub changes : (it : Item) → it ≡ item_at b i → asked_at b g.scope i ≡ passes → ((t : ℕ) × (it ≡ Event t)) ⊎ ((o : Order) × (x : ℕ) × (y : ℕ) × (it ≡ Repeat o x y)) → (h : Progress)
       → h.tally ≡ g.tally → h.earlier ≡ g.earlier → h.later ≡ g.later → Same g h → Counted b (suc i) h
   changes it is pa (inl e) = by_kind it (Event e.0) is e.1 tt pa
   changes it is pa (inr e) = by_kind it (Repeat e.0 e.1 e.2) is e.3 tt pa
 
-  pub joins : (it : Item) → it ≡ item_at b i → asked_at b g.scope i ≡ None → ((o : Order) × (it ≡ Both o)) ⊎ (it ≡ Either) → (h : Progress)
+  pub joins : (it : Item) → it ≡ item_at b i → asked_at b g.scope i ≡ passes → ((o : Order) × (it ≡ Both o)) ⊎ (it ≡ Either) → (h : Progress)
       → h.tally ≡ tallied g.tally.roots g.tally.closed (g.tally.patterns - 1) g.tally.picks → h.earlier ≡ g.earlier → h.later ≡ g.later → Same g h → Counted b (suc i) h
   joins it is pa (inl e) = by_kind it (Both e.0) is e.1 tt pa
   joins it is pa (inr e) = by_kind it Either is e tt pa
 
-  pub two_wait : (it : Item) → it ≡ item_at b i → asked_at b g.scope i ≡ None → ((o : Order) × (it ≡ Both o)) ⊎ (it ≡ Either) → 2 ≤ g.tally.patterns
+  pub two_wait : (it : Item) → it ≡ item_at b i → asked_at b g.scope i ≡ passes → ((o : Order) × (it ≡ Both o)) ⊎ (it ≡ Either) → 2 ≤ g.tally.patterns
   two_wait it is pa (inl e) = omega (arith, (found_at b g.scope i (Both e.0) pa (sym e.1 ∙ is)).1, ap (λ (v : Tally). v.patterns) c.tally)
   two_wait it is pa (inr e) = omega (arith, (found_at b g.scope i Either pa (sym e ∙ is)).1, ap (λ (v : Tally). v.patterns) c.tally)
 
@@ -297,7 +297,7 @@ module _ (b : List ℕ) (i : ℕ) (g : Progress) (c : Counted b i g) where
       late it is f (ap (λ z. rooted z (state b i).patterns (state b i).roots) (sym is) ∙ er) (ap (λ z. stacked z (state b i).patterns) (sym is) ∙ es) 0
       (ap length (sym e)) h t (hx ∙ ap earlier (sym e)) (hy ∙ ap later (sym e)) k
 
-  pub operates : (it : Item) → it ≡ item_at b i → asked_at b g.scope i ≡ None → ((r : Relation) × (it ≡ Relate r)) ⊎ ((n : ℕ) × (it ≡ AtMost n)) → (h : Progress)
+  pub operates : (it : Item) → it ≡ item_at b i → asked_at b g.scope i ≡ passes → ((r : Relation) × (it ≡ Relate r)) ⊎ ((n : ℕ) × (it ≡ AtMost n)) → (h : Progress)
       → h.tally ≡ tallied g.tally.roots g.tally.closed g.tally.patterns 0 → h.earlier ≡ earlier [] → h.later ≡ later [] → Same g h → Counted b (suc i) h
   operates it is pa (inl e) = let ix = sym e.1 ∙ is in taken (Relate e.0) ix refl refl refl (found_at b g.scope i (Relate e.0) pa ix).0
   operates it is pa (inr e) = let ix = sym e.1 ∙ is in taken (AtMost e.0) ix refl refl refl (found_at b g.scope i (AtMost e.0) pa ix).0

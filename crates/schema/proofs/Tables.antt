@@ -1,7 +1,7 @@
 -- A table is accepted exactly when it is the writing of a schema within the limits.
-use Rattle.std.proofs.Common.{◌≡◌, ℕ, zero, suc, ◌+◌, ◌-◌, ◌*◌, ◌<◌, ◌≤◌, Bool, true, false, cond, not, ◌&&◌, eqb, leb, ◌⊎◌, List, [], ◌∷◌, ◌++◌, length, Some, None, Ok, Err, Option, Result, sym, refl, ap, ◌∙◌, subst, inl, inr, arith, length-append}
+use Rattle.std.proofs.Common.{◌≡◌, ℕ, zero, suc, ◌+◌, ◌-◌, ◌*◌, ◌<◌, ◌≤◌, Bool, true, false, cond, not, ◌&&◌, eqb, leb, ◌⊎◌, List, [], ◌∷◌, ◌++◌, length, Some, None, Ok, Err, Result, sym, refl, ap, ◌∙◌, subst, inl, inr, arith, length-append}
 use Rattle.std.proofs.lemmas.Bool.{and_parts, and_from, not-true, not_from_false, le-leb, eq-eqb, ne_eqb, eqb-true, eqb-false, cases_lt}
-use Rattle.questions.specs.Limits.{most_items, most_roots, most_scope, most_candidates, most_events, no_item}
+use Rattle.questions.specs.Limits.{most_items, most_roots, most_scope, most_candidates, most_events}
 use Rattle.questions.specs.declared.question.Question.{Question}
 use Rattle.questions.specs.declared.question.Question.TheVariants.{Sharing}
 use Rattle.questions.specs.declared.refusal.Refusal.{Refusal}
@@ -9,7 +9,7 @@ use Rattle.grammar.specs.Pattern.{count, len}
 use Rattle.grammar.specs.Schema.{Rooted, Schema, candidates, events}
 use Rattle.grammar.specs.declared.part.Relation.TheVariants.{Share, Coordinate, AsMany, NoMore, FewerBefore}
 use Rattle.grammar.specs.declared.part.Selection.{Selection}
-use Rattle.items.specs.Asked.{asked, sized, closing}
+use Rattle.items.specs.Asked.{Answer, passes, asked, sized, closing}
 use Rattle.items.specs.declared.ask.Tally.{Tally}
 use Rattle.schema.specs.Bytes.{item_count, root_count, kind_at, argument_at, item_at}
 use Rattle.schema.specs.Reading.{State, start, step, state, tally_at, made, earlier, later, schema_of}
@@ -49,16 +49,16 @@ enclosed_none b t (suc n) u =
 
 -- An item with no "no" is good.
 
-asks_parts : (b : List ℕ) (s i : ℕ) → asks b s i ≡ None → (asked_at b s i ≡ None) × (shared_at b i ≡ None) × (sized_at b s i ≡ None)
+asks_parts : (b : List ℕ) (s i : ℕ) → asks b s i ≡ passes → (asked_at b s i ≡ passes) × (shared_at b i ≡ passes) × (sized_at b s i ≡ passes)
 unfolding asks
 asks_parts b s i e = go (asked_at b s i) refl (shared_at b i) refl e
   where
-    go : (x : Option Question) → asked_at b s i ≡ x → (y : Option Question) → shared_at b i ≡ y → first_no x (first_no y (sized_at b s i)) ≡ None → (asked_at b s i ≡ None) × (shared_at b i ≡ None) × (sized_at b s i ≡ None)
-    go (Some q) ex y ey h = let z : ◌≡◌ {A = ℕ} 0 1 = cc in absurd (omega arith)
-    go None ex (Some q) ey h = let z : ◌≡◌ {A = ℕ} 0 1 = cc in absurd (omega arith)
-    go None ex None ey h = (ex, ey, h)
+    go : (x : Answer) → asked_at b s i ≡ x → (y : Answer) → shared_at b i ≡ y → first_no x (first_no y (sized_at b s i)) ≡ passes → (asked_at b s i ≡ passes) × (shared_at b i ≡ passes) × (sized_at b s i ≡ passes)
+    go (Err q) ex y ey h = let z : ◌≡◌ {A = ℕ} 0 1 = cc in absurd (omega arith)
+    go (Ok u) ex (Err q) ey h = let z : ◌≡◌ {A = ℕ} 0 1 = cc in absurd (omega arith)
+    go (Ok u) ex (Ok v) ey h = (ex, ey, h)
 
-cond_none : (o : Bool) (q : Question) → ◌≡◌ {A = Option Question} (cond o None (Some q)) None → o ≡ true
+cond_none : (o : Bool) (q : Question) → ◌≡◌ {A = Answer} (cond o passes (Err q)) passes → o ≡ true
 cond_none true q e = refl
 cond_none false q e = let z : ◌≡◌ {A = ℕ} 0 1 = cc in absurd (omega arith)
 
@@ -69,7 +69,7 @@ shares_related b all x y u e =
     let g = and_parts (not (eqb x.root y.root)) (not held) h.1 in
     (eqb-true x.event y.event h.0, eqb-false x.root y.root (not-true (eqb x.root y.root) g.0), u x.event (not-true held g.1))
 
-shared_good : (b : List ℕ) (all : List Item) (it : Item) (xs : List Selection) → ((t : ℕ) → enclosed b t (item_count b) ≡ false → Unenclosed t all) → shared b it (earlier xs) (later xs) ≡ None → Shared all it xs
+shared_good : (b : List ℕ) (all : List Item) (it : Item) (xs : List Selection) → ((t : ℕ) → enclosed b t (item_count b) ≡ false → Unenclosed t all) → shared b it (earlier xs) (later xs) ≡ passes → Shared all it xs
 shared_good b all Nothing xs u h = tt
 shared_good b all (Atom t) xs u h = tt
 shared_good b all (Event t) xs u h = tt
@@ -86,11 +86,11 @@ shared_good b all (Relate FewerBefore) xs u h = tt
 shared_good b all (AtMost n) xs u h = tt
 shared_good b all Unknown xs u h = tt
 
-says_at : (b : List ℕ) (s i : ℕ) → asks b s i ≡ None → Says b i
+says_at : (b : List ℕ) (s i : ℕ) → asks b s i ≡ passes → Says b i
 unfolding asked_at item_at
 says_at b s i e = asked_says s (tally_at b i) (kind_at b i) (argument_at b i) (asks_parts b s i e).0
 
-good_from : (b : List ℕ) (s i : ℕ) (all : List Item) → ((t : ℕ) → enclosed b t (item_count b) ≡ false → Unenclosed t all) → asks b s i ≡ None → Good s (root_count b) all (item_at b i) (state b i)
+good_from : (b : List ℕ) (s i : ℕ) (all : List Item) → ((t : ℕ) → enclosed b t (item_count b) ≡ false → Unenclosed t all) → asks b s i ≡ passes → Good s (root_count b) all (item_at b i) (state b i)
 unfolding shared_at sized_at made_at
 good_from b s i all u e =
     let h = asks_parts b s i e in
@@ -102,7 +102,7 @@ good_from b s i all u e =
       small = sized_none (count s (made it (state b i).patterns)) (len s (made it (state b i).patterns)) h.2;
     }
 
-passing_from : (b : List ℕ) (s : ℕ) (all : List Item) → ((t : ℕ) → enclosed b t (item_count b) ≡ false → Unenclosed t all) → (n : ℕ) → ((j : ℕ) → j < n → asks b s j ≡ None) → Passing s (root_count b) all (firsts b n) start
+passing_from : (b : List ℕ) (s : ℕ) (all : List Item) → ((t : ℕ) → enclosed b t (item_count b) ≡ false → Unenclosed t all) → (n : ℕ) → ((j : ℕ) → j < n → asks b s j ≡ passes) → Passing s (root_count b) all (firsts b n) start
 passing_from b s all u zero h = tt
 passing_from b s all u (suc n) h =
     join s (root_count b) all (firsts b n) (item_at b n ∷ []) start (passing_from b s all u n (λ j l. h j (omega arith)))
@@ -116,7 +116,7 @@ related_shares b all x y u h =
     and_from (eqb x.event y.event) (not (eqb x.root y.root) && not held) (eq-eqb x.event y.event h.0)
     (and_from (not (eqb x.root y.root)) (not held) (not_from_false (eqb x.root y.root) (ne_eqb x.root y.root h.1)) (not_from_false held (u x.event h.2)))
 
-good_shared : (b : List ℕ) (all : List Item) (it : Item) (xs : List Selection) → ((t : ℕ) → Unenclosed t all → enclosed b t (item_count b) ≡ false) → Shared all it xs → shared b it (earlier xs) (later xs) ≡ None
+good_shared : (b : List ℕ) (all : List Item) (it : Item) (xs : List Selection) → ((t : ℕ) → Unenclosed t all → enclosed b t (item_count b) ≡ false) → Shared all it xs → shared b it (earlier xs) (later xs) ≡ passes
 good_shared b all Nothing xs u h = refl
 good_shared b all (Atom t) xs u h = refl
 good_shared b all (Event t) xs u h = refl
@@ -125,7 +125,7 @@ good_shared b all Either xs u h = refl
 good_shared b all (Repeat o x y) xs u h = refl
 good_shared b all (Root t) xs u h = refl
 good_shared b all (Pick x) xs u h = refl
-good_shared b all (Relate Share) xs u h = ap (λ o. cond {A = Option Question} o None (Some Sharing)) (related_shares b all (earlier xs) (later xs) u h)
+good_shared b all (Relate Share) xs u h = ap (λ o. cond {A = Answer} o passes (Err Sharing)) (related_shares b all (earlier xs) (later xs) u h)
 good_shared b all (Relate Coordinate) xs u h = refl
 good_shared b all (Relate AsMany) xs u h = refl
 good_shared b all (Relate NoMore) xs u h = refl
@@ -133,16 +133,16 @@ good_shared b all (Relate FewerBefore) xs u h = refl
 good_shared b all (AtMost n) xs u h = refl
 good_shared b all Unknown xs u h = refl
 
-asks_back : (b : List ℕ) (s i : ℕ) (all : List Item) → ((t : ℕ) → Unenclosed t all → enclosed b t (item_count b) ≡ false) → Says b i → Good s (root_count b) all (item_at b i) (state b i) → asks b s i ≡ None
+asks_back : (b : List ℕ) (s i : ℕ) (all : List Item) → ((t : ℕ) → Unenclosed t all → enclosed b t (item_count b) ≡ false) → Says b i → Good s (root_count b) all (item_at b i) (state b i) → asks b s i ≡ passes
 unfolding asked_at shared_at sized_at made_at
 asks_back b s i all u says g =
     let it = item_at b i in
     let S = state b i in
-    let a : asked_at b s i ≡ None = ap (λ a. asked s (tally_at b i) (item_at b i) a) (sym says.1) ∙ passed_asked s (tally_at b i) it g.suited g.found in
-    let h : shared_at b i ≡ None = good_shared b all it S.picks u g.shared in
+    let a : asked_at b s i ≡ passes = ap (λ a. asked s (tally_at b i) (item_at b i) a) (sym says.1) ∙ passed_asked s (tally_at b i) it g.suited g.found in
+    let h : shared_at b i ≡ passes = good_shared b all it S.picks u g.shared in
     asks_sized b s i a h ∙ fits (count s (made it S.patterns)) (len s (made it S.patterns)) g.small
   where
-    fits : (n l : ℕ) → (n ≤ most_candidates) × (l ≤ most_events) → sized n l ≡ None
+    fits : (n l : ℕ) → (n ≤ most_candidates) × (l ≤ most_events) → sized n l ≡ passes
     fits n l h = rw (le-leb n most_candidates h.0, le-leb l most_events h.1) refl
 
 good_at : (b : List ℕ) (s r : ℕ) (all : List Item) (n : ℕ) → Passing s r all (firsts b n) start → (j : ℕ) → j < n → Good s r all (item_at b j) (state b j)
@@ -161,40 +161,40 @@ suited_from s r all (x ∷ xs) S a = (a.0.suited, suited_from s r all xs (step x
 
 -- The verdict.
 
-from_ok : (b : List ℕ) (s i k t : ℕ) → from b s i k ≡ Ok t → ((j : ℕ) → j < k → asks b s (i + j) ≡ None) × (closing_at b s ≡ None)
+from_ok : (b : List ℕ) (s i k t : ℕ) → from b s i k ≡ Ok t → ((j : ℕ) → j < k → asks b s (i + j) ≡ passes) × (closing_at b s ≡ passes)
 unfolding from
 from_ok b s i zero t e = (λ j l. absurd (omega arith), go (closing_at b s) refl e)
   where
-    go : (o : Option Question) → closing_at b s ≡ o → answered o no_item (Ok (candidates s (schema_of b).roots)) ≡ Ok t → closing_at b s ≡ None
-    go (Some q) eo h = let z : ◌≡◌ {A = ℕ} 0 1 = cc in absurd (omega arith)
-    go None eo h = eo
+    go : (o : Answer) → closing_at b s ≡ o → answered o None (Ok (candidates s (schema_of b).roots)) ≡ Ok t → closing_at b s ≡ passes
+    go (Err q) eo h = let z : ◌≡◌ {A = ℕ} 0 1 = cc in absurd (omega arith)
+    go (Ok u) eo h = eo
 from_ok b s i (suc k) t e = go (from_ok b s (suc i) k t) (asks b s i) refl e
   where
-    at : asks b s i ≡ None → (j : ℕ) → (j < 1) ⊎ (1 ≤ j) → j < suc k → ((j : ℕ) → j < k → asks b s (suc i + j) ≡ None) → asks b s (i + j) ≡ None
+    at : asks b s i ≡ passes → (j : ℕ) → (j < 1) ⊎ (1 ≤ j) → j < suc k → ((j : ℕ) → j < k → asks b s (suc i + j) ≡ passes) → asks b s (i + j) ≡ passes
     at eo j (inl m) l f = ap (asks b s) {x = i + j} {y = i} (omega arith) ∙ eo
     at eo j (inr m) l f = ap (asks b s) {x = i + j} {y = suc i + (j - 1)} (omega arith) ∙ f (j - 1) (omega arith)
 
-    go : (from b s (suc i) k ≡ Ok t → ((j : ℕ) → j < k → asks b s (suc i + j) ≡ None) × (closing_at b s ≡ None)) → (o : Option Question) → asks b s i ≡ o → answered o i (from b s (suc i) k) ≡ Ok t
-        → ((j : ℕ) → j < suc k → asks b s (i + j) ≡ None) × (closing_at b s ≡ None)
-    go f (Some q) eo h = let z : ◌≡◌ {A = ℕ} 0 1 = cc in absurd (omega arith)
-    go f None eo h = let u = f h in (λ j l. at eo j (cases_lt j 1) l u.0, u.1)
+    go : (from b s (suc i) k ≡ Ok t → ((j : ℕ) → j < k → asks b s (suc i + j) ≡ passes) × (closing_at b s ≡ passes)) → (o : Answer) → asks b s i ≡ o → answered o (Some i) (from b s (suc i) k) ≡ Ok t
+        → ((j : ℕ) → j < suc k → asks b s (i + j) ≡ passes) × (closing_at b s ≡ passes)
+    go f (Err q) eo h = let z : ◌≡◌ {A = ℕ} 0 1 = cc in absurd (omega arith)
+    go f (Ok w) eo h = let u = f h in (λ j l. at eo j (cases_lt j 1) l u.0, u.1)
 
-ok_from : (b : List ℕ) (s i k : ℕ) → ((j : ℕ) → j < k → asks b s (i + j) ≡ None) → closing_at b s ≡ None → from b s i k ≡ Ok (candidates s (schema_of b).roots)
+ok_from : (b : List ℕ) (s i k : ℕ) → ((j : ℕ) → j < k → asks b s (i + j) ≡ passes) → closing_at b s ≡ passes → from b s i k ≡ Ok (candidates s (schema_of b).roots)
 unfolding from
-ok_from b s i zero h e = ap (λ o. answered o no_item (Ok (candidates s (schema_of b).roots))) e
+ok_from b s i zero h e = ap (λ o. answered o None (Ok (candidates s (schema_of b).roots))) e
 ok_from b s i (suc k) h e =
-    let a : asks b s i ≡ None = ap (asks b s) {x = i} {y = i + 0} (omega arith) ∙ h 0 (omega arith) in
-    ap (λ o. answered o i (from b s (suc i) k)) a ∙ ok_from b s (suc i) k (λ j l. ap (asks b s) {x = suc i + j} {y = i + suc j} (omega arith) ∙ h (suc j) (omega arith)) e
+    let a : asks b s i ≡ passes = ap (asks b s) {x = i} {y = i + 0} (omega arith) ∙ h 0 (omega arith) in
+    ap (λ o. answered o (Some i) (from b s (suc i) k)) a ∙ ok_from b s (suc i) k (λ j l. ap (asks b s) {x = suc i + j} {y = i + suc j} (omega arith) ∙ h (suc j) (omega arith)) e
 
-verdict_open : (b : List ℕ) (s t : ℕ) → verdict b s ≡ Ok t → opening b s ≡ None
+verdict_open : (b : List ℕ) (s t : ℕ) → verdict b s ≡ Ok t → opening b s ≡ passes
 unfolding verdict
 verdict_open b s t e = go (opening b s) refl e
   where
-    go : (o : Option Question) → opening b s ≡ o → answered o no_item (from b s 0 (item_count b)) ≡ Ok t → opening b s ≡ None
-    go (Some q) eo h = let z : ◌≡◌ {A = ℕ} 0 1 = cc in absurd (omega arith)
-    go None eo h = eo
+    go : (o : Answer) → opening b s ≡ o → answered o None (from b s 0 (item_count b)) ≡ Ok t → opening b s ≡ passes
+    go (Err q) eo h = let z : ◌≡◌ {A = ℕ} 0 1 = cc in absurd (omega arith)
+    go (Ok u) eo h = eo
 
-open_back : (b : List ℕ) (s : ℕ) → Opened b s → opening b s ≡ None
+open_back : (b : List ℕ) (s : ℕ) → Opened b s → opening b s ≡ passes
 open_back b s o =
     rw (
       and_from (leb 4 (length b)) (eqb (length b) (4 + 3 * item_count b)) (le-leb 4 (length b) o.four) (eq-eqb (length b) (4 + 3 * item_count b) o.bytes),
@@ -204,7 +204,7 @@ open_back b s o =
       and_from (leb 1 s) (leb s most_scope) (le-leb 1 s o.scope_from) (le-leb s most_scope o.scope_to),
     ) refl
 
-closing_back : (t : Tally) (n l : ℕ) → t.closed ≡ t.roots → t.patterns ≡ 0 → t.picks ≡ 0 → n ≤ most_candidates → l ≤ most_events → closing t n l ≡ None
+closing_back : (t : Tally) (n l : ℕ) → t.closed ≡ t.roots → t.patterns ≡ 0 → t.picks ≡ 0 → n ≤ most_candidates → l ≤ most_events → closing t n l ≡ passes
 closing_back t n l a b d e f =
     rw (
       and_from (eqb t.closed t.roots) (eqb t.patterns 0 && eqb t.picks 0) (eq-eqb t.closed t.roots a) (and_from (eqb t.patterns 0) (eqb t.picks 0) (eq-eqb t.patterns 0 b) (eq-eqb t.picks 0 d)),
@@ -219,8 +219,8 @@ no_length (x ∷ l) e = absurd (omega arith)
 -- no question has a "no"
 pub record Passes (b : List ℕ) (s : ℕ) : Type 0 where
   pub sizes : Opened b s
-  pub items : (j : ℕ) → j < item_count b → asks b s j ≡ None
-  pub end : closing_at b s ≡ None
+  pub items : (j : ℕ) → j < item_count b → asks b s j ≡ passes
+  pub end : closing_at b s ≡ passes
 
 -- From the verdict to the schema.
 

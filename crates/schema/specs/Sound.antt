@@ -1,5 +1,6 @@
 -- What a checked table holds. Assumes nothing.
 use Rattle.std.specs.Prelude.{◌≡◌, ℕ, ◌+◌, ◌-◌, ◌*◌, ◌<◌, List, [], ◌∷◌, length, Ok, Err, Result, slice_index_or}
+use Rattle.arrayvec.specs.ArrayVec.{ArrayVec, array_vec_len}
 use Rattle.questions.specs.declared.refusal.Refusal.{Refusal}
 use Rattle.grammar.specs.Pattern.{nothing}
 use Rattle.grammar.specs.Schema.{Rooted}
@@ -11,7 +12,6 @@ use Rattle.schema.specs.Plans.{no_root, entry, plan_of}
 use Rattle.schema.specs.Questions.{made_at, verdict}
 use Rattle.schema.specs.Progress.{Sized, Ends, KnowsMade, no_measure}
 use Rattle.schema.specs.Within.{Within}
-use Rattle.schema.specs.declared.known.Known.{Known}
 use Rattle.schema.specs.declared.plan.Plan.{Plan}
 use Rattle.schema.specs.declared.plan.Root.{Root}
 
@@ -26,7 +26,7 @@ pub record Planned (b : List ℕ) (s : ℕ) (e : Root) (r : Rooted) : Type 0 whe
   pub is : pattern_at b (e.item - 1) ≡ r.pattern
 
 -- all that is known of a table b that was accepted at scope s with the total t and the plan p, and whose items are measured
-pub record Sound (b : List ℕ) (s t : ℕ) (p : Plan) (k : Known) : Type 0 where
+pub record Sound (b : List ℕ) (s t : ℕ) (p : Plan) (k : ArrayVec Measure) : Type 0 where
   pub accepted : verdict b s ≡ Ok t
   pub bytes : length b ≡ 4 + 3 * item_count b
   pub sized : Sized b
@@ -34,7 +34,7 @@ pub record Sound (b : List ℕ) (s t : ℕ) (p : Plan) (k : Known) : Type 0 wher
   pub within : Within s (schema_of b)
   pub plan : p ≡ plan_of s (schema_of b).roots
   pub planned : (j : ℕ) → j < length (schema_of b).roots → Planned b s (slice_index_or p.roots j no_root) (slice_index_or (schema_of b).roots j no_rooted)
-  pub all : k.len ≡ item_count b
+  pub all : array_vec_len k ≡ item_count b
   pub right : KnowsMade b s k
 
 -- The same by numbers alone, as a value of the code carries it.
@@ -60,5 +60,5 @@ PlansRoots b s p = numbers_of_roots p.roots ≡ numbers_of_roots (plan_of s (sch
 abbrev pub numbers_of_measure : Measure → List ℕ
 numbers_of_measure m = m.items ∷ (m.count ∷ (m.length ∷ []))
 
-abbrev pub MeasuresAll : List ℕ → ℕ → Known → Type 0
-MeasuresAll b s k = (j : ℕ) → j < k.len → numbers_of_measure (slice_index_or k.measures j no_measure) ≡ numbers_of_measure (measure_of s (made_at b j))
+abbrev pub MeasuresAll : List ℕ → ℕ → ArrayVec Measure → Type 0
+MeasuresAll b s k = (j : ℕ) → j < array_vec_len k → numbers_of_measure (slice_index_or k.items j no_measure) ≡ numbers_of_measure (measure_of s (made_at b j))

@@ -7,19 +7,17 @@ ghost use Rattle.schema.specs.Told.{told, HoldsTable};
 
 use crate::checked::Checked;
 use crate::progress::Progress;
-use crate::verdict::taken;
-use items::ask_whole;
+use crate::verdict::passed;
 use questions::Refusal;
-use questions::limits::{MOST_BYTES, NO_ITEM};
+use questions::limits::MOST_BYTES;
 
-/// A copy of the bytes of a table; what does not fit is left out.
+/// A copy of the bytes of a table.
 fn bytes_of(table: &[u8]) -> [u8; MOST_BYTES]
-    ensures { length table.now ≤ most_bytes → take (length table.now) result ≡ table.now }
+    requires { length table.now ≤ most_bytes }
+    ensures { take (length table.now) result ≡ table.now }
 {
     let mut bytes = [0; MOST_BYTES];
-    for i in 0..table.len().min(MOST_BYTES) {
-        bytes[i] = table[i];
-    }
+    bytes[..table.len()].copy_from_slice(table);
     bytes
 }
 
@@ -29,23 +27,15 @@ impl Checked {
         ensures answer { told result ≡ verdict table.now scope }
         ensures holds { HoldsTable result table.now scope }
     {
-        let progress = taken(table, scope)?;
-        if let Some(question) = ask_whole(progress.tally, progress.total, progress.length) {
-            return Err(Refusal {
-                question,
-                item: NO_ITEM,
-            });
-        }
         let Progress {
             scope,
             total,
             plan,
             known,
             ..
-        } = progress;
-        let bytes = bytes_of(table);
+        } = passed(table, scope)?;
         Ok(Checked {
-            bytes,
+            bytes: bytes_of(table),
             len: table.len(),
             scope,
             total,

@@ -1,11 +1,12 @@
 //! A table that passed the questions.
 
 ghost use Rattle.std.specs.Prelude.{◌≡◌, ℕ, ◌<◌, ◌≤◌, take, slice_index};
+ghost use Rattle.arrayvec.specs.ArrayVec.{array_vec_len};
 ghost use Rattle.questions.specs.Limits.{most_bytes};
 ghost use Rattle.schema.specs.Bytes.{item_count};
 ghost use Rattle.schema.specs.Sound.{Accepts, PlansRoots, MeasuresAll};
 
-use crate::known::Known;
+use crate::measured::Known;
 use crate::plan::Plan;
 use questions::limits::MOST_BYTES;
 
@@ -22,6 +23,6 @@ pub struct Checked {
     ghost octets: { (i : ℕ) → slice_index (take len bytes) i < 256 },
     ghost accepted: { Accepts (take len bytes) scope total },
     ghost planned: { PlansRoots (take len bytes) scope plan },
-    ghost all: { known.len ≡ item_count (take len bytes) },
+    ghost all: { array_vec_len known ≡ item_count (take len bytes) },
     ghost measured: { MeasuresAll (take len bytes) scope known },
 }

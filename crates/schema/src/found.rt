@@ -6,25 +6,9 @@ ghost use Rattle.schema.specs.Told.{table_of, item_found, measure_found, root_fo
 
 use crate::checked::Checked;
 use crate::plan::Root;
-use crate::read::{item_at, word_at};
+use crate::table::Table;
 use grammar::Measure;
 use items::Item;
-use questions::limits::MOST_ROOTS;
-
-/// The measure of nothing that is there.
-const NO_MEASURE: Measure = Measure {
-    items: 0,
-    count: 0,
-    length: 0,
-};
-
-/// The entry of no root.
-const NO_ROOT: Root = Root {
-    event: 0,
-    item: 0,
-    count: 0,
-    length: 0,
-};
 
 impl Checked {
     /// The bytes of the table.
@@ -32,6 +16,13 @@ impl Checked {
         ensures { result.now ≡ table_of self.now }
     {
         &self.bytes[0..self.len]
+    }
+
+    /// The table, whose items are all there.
+    fn sized(&self) -> Table<'_>
+        ensures { result ≡ table_of self.now }
+    {
+        Table::of(self.table())
     }
 
     /// The scope that it was checked at.
@@ -52,15 +43,15 @@ impl Checked {
     pub fn roots(&self) -> usize
         ensures { result ≡ length (schema_of (table_of self.now)).roots }
     {
-        usize::from(word_at(self.table(), 2))
+        self.sized().roots()
     }
 
     /// Item `i`; past the last, an unknown one.
     pub fn item(&self, i: usize) -> Item
         ensures { result ≡ item_found (table_of self.now) i }
     {
-        if i < self.known.len {
-            item_at(self.table(), i)
+        if i < self.known.len() {
+            self.sized().item(i)
         } else {
             Item::Unknown
         }
@@ -70,21 +61,13 @@ impl Checked {
     pub fn measure(&self, i: usize) -> Measure
         ensures { result ≡ measure_found (table_of self.now) self.now.scope i }
     {
-        if i < self.known.len {
-            self.known.measures[i]
-        } else {
-            NO_MEASURE
-        }
+        self.known.get(i).copied().unwrap_or_default()
     }
 
     /// Root `k`; past the last, all zero.
     pub fn root(&self, k: usize) -> Root
         ensures { result ≡ root_found (table_of self.now) self.now.scope k }
     {
-        if k < MOST_ROOTS {
-            self.plan.roots[k]
-        } else {
-            NO_ROOT
-        }
+        self.plan.roots.get(k).copied().unwrap_or_default()
     }
 }

@@ -9,10 +9,10 @@ mod accepted;
 mod ask;
 pub mod checked;
 mod found;
-mod known;
+mod measured;
 pub mod plan;
 mod progress;
-mod read;
+mod table;
 mod verdict;
 
 pub use checked::Checked;

@@ -7,7 +7,7 @@ ghost use Rattle.schema.specs.Plans.{empty_plan};
 use questions::limits::MOST_ROOTS;
 
 /// A root: its type, the item that closes it, how many choices it has and how many events it lays at most, its own among them.
-#[derive(Clone, Copy)]
+#[derive(Clone, Copy, Default)]
 pub struct Root {
     pub event: u8,
     pub item: u8,
@@ -26,14 +26,8 @@ impl Plan {
     pub fn empty() -> Plan
         ensures { result ≡ empty_plan }
     {
-        let none = Root {
-            event: 0,
-            item: 0,
-            count: 0,
-            length: 0,
-        };
         Plan {
-            roots: [none; MOST_ROOTS],
+            roots: [Root::default(); MOST_ROOTS],
         }
     }
 

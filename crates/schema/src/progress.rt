@@ -1,16 +1,17 @@
 //! How far a check has come, and one more item: asked, measured, counted, and its root planned.
 
-ghost use Rattle.std.specs.Prelude.{◌≡◌, ℕ, suc, ◌<◌, ◌≤◌, List, None};
+ghost use Rattle.std.specs.Prelude.{◌≡◌, ℕ, suc, ◌<◌, ◌≤◌, List, OnOk};
 ghost use Rattle.questions.specs.Limits.{most_candidates, most_events};
 ghost use Rattle.grammar.specs.Measures.{measure_of};
+ghost use Rattle.items.specs.Asked.{passes};
 ghost use Rattle.schema.specs.Bytes.{item_count, root_count};
 ghost use Rattle.schema.specs.Questions.{asked_at, made_at, asks};
-ghost use Rattle.schema.specs.Progress.{Sized, Knows, KnowsMade, Counted, Holds};
+ghost use Rattle.schema.specs.Progress.{Knows, KnowsMade, Counted, Holds};
 
 use crate::ask::ask_sharing;
-use crate::known::Known;
+use crate::measured::{Known, measure_of};
 use crate::plan::{Plan, Root};
-use crate::read::{argument_at, item_at, measure_of};
+use crate::table::Table;
 use grammar::measure::product_capped;
 use grammar::{Measure, Selection};
 use items::{Item, Tally, ask_item, ask_measure};
@@ -52,19 +53,18 @@ impl Progress {
             total: 1,
             length: 0,
             plan: Plan::empty(),
-            known: Known::none(),
+            known: Known::new(),
         }
     }
 
     /// The measure of what item `i` makes, which has passed questions 4 to 6: a pattern, a root's event, or else nothing.
-    fn measure_made(&self, table: &[u8], i: usize) -> Measure
-        requires sized { Sized table.now }
+    fn measure_made(&self, table: &Table, i: usize) -> Measure
         requires within { i < item_count table.now }
         requires knows { Knows table.now self.now.scope self.now.known }
-        requires passed { asked_at table.now self.now.scope i ≡ None }
+        requires passed { asked_at table.now self.now.scope i ≡ passes }
         ensures { result ≡ measure_of self.now.scope (made_at table.now i) }
     {
-        match item_at(table, i) {
+        match table.item(i) {
             Item::Root(_) => measure_of(table, self.scope, &self.known, i - 1).inside(),
             Item::Pick(_) | Item::Relate(_) | Item::AtMost(_) | Item::Unknown => Measure::nothing(),
             _ => measure_of(table, self.scope, &self.known, i),
@@ -72,17 +72,16 @@ impl Progress {
     }
 
     /// Counts item `i`, which has passed, and whose measure is `m`.
-    fn settle(&mut self, table: &[u8], i: usize, m: Measure)
-        requires sized { Sized table.now }
+    fn settle(&mut self, table: &Table, i: usize, m: Measure)
         requires within { i < item_count table.now }
         requires counted { Counted table.now i self.old }
-        requires passed { asked_at table.now self.old.scope i ≡ None }
+        requires passed { asked_at table.now self.old.scope i ≡ passes }
         requires measured { (m ≡ measure_of self.old.scope (made_at table.now i)) × ((m.count ≤ most_candidates) × (m.length ≤ most_events)) }
         ensures counted { Counted table.now (suc i) self.new }
         ensures scope { self.new.scope ≡ self.old.scope }
         ensures known { self.new.known ≡ self.old.known }
     {
-        match item_at(table, i) {
+        match table.item(i) {
             Item::Nothing | Item::Atom(_) => self.tally.patterns += 1,
             Item::Event(_) | Item::Repeat(_, _, _) => {}
             Item::Both(_) | Item::Either => self.tally.patterns -= 1,
@@ -114,28 +113,21 @@ impl Progress {
     }
 
     /// Asks questions 4 to 9 of item `i`, and counts it where none fails.
-    pub(crate) fn take(&mut self, table: &[u8], i: usize) -> Option<Question>
-        requires sized { Sized table.now }
+    pub(crate) fn take(&mut self, table: &Table, i: usize) -> Result<(), Question>
         requires within { i < item_count table.now }
         requires holds { Holds table.now i self.old }
         ensures answer { result ≡ asks table.now self.old.scope i }
-        ensures scope { result ≡ None → self.new.scope ≡ self.old.scope }
-        ensures goes { result ≡ None → Holds table.now (suc i) self.new }
-        ensures made { result ≡ None → KnowsMade table.now self.old.scope self.old.known → KnowsMade table.now self.new.scope self.new.known }
+        ensures scope { OnOk result (self.new.scope ≡ self.old.scope) }
+        ensures goes { OnOk result (Holds table.now (suc i) self.new) }
+        ensures made { OnOk result (KnowsMade table.now self.old.scope self.old.known → KnowsMade table.now self.new.scope self.new.known) }
     {
-        let item = item_at(table, i);
-        if let Some(q) = ask_item(self.scope, self.tally, item, argument_at(table, i)) {
-            return Some(q);
-        }
-        if let Some(q) = ask_sharing(table, item, self.earlier, self.later) {
-            return Some(q);
-        }
+        let item = table.item(i);
+        ask_item(self.scope, self.tally, item, table.argument(i))?;
+        ask_sharing(table, item, self.earlier, self.later)?;
         let m = self.measure_made(table, i);
-        if let Some(q) = ask_measure(m) {
-            return Some(q);
-        }
+        ask_measure(m)?;
         self.known.push(m);
         self.settle(table, i, m);
-        None
+        Ok(())
     }
 }

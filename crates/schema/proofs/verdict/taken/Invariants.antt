@@ -6,6 +6,6 @@ use Rattle.schema.proofs.verdict.taken.Given as goal
 
 abbrev pub invariant-loop-i : goal.invariant-loop-i
 invariant-loop-i l =
-    Holds l.table l.i l.progress × (l.progress.scope ≡ l.scope)
-    × (verdict l.table l.scope ≡ from l.table l.scope l.i (item_count l.table - l.i))
-    × KnowsMade l.table l.progress.scope l.progress.known
+    Holds l.bytes l.i-counter l.progress × (l.progress.scope ≡ l.scope)
+    × (verdict l.bytes l.scope ≡ from l.bytes l.scope l.i-counter (item_count l.bytes - l.i-counter))
+    × KnowsMade l.bytes l.progress.scope l.progress.known

@@ -1,10 +1,7 @@
-use Rattle.std.proofs.Common.{length, ap, arith}
+use Rattle.std.proofs.Common.{ap, arith}
 use Rattle.schema.specs.Bytes.{item_count}
 use Rattle.schema.proofs.Carried.{checked_sound}
 use Rattle.schema.proofs.checked.Checked.item.Goals as goal
 
-pub item_at-requires : goal.item_at-requires
-item_at-requires c =
-    let z = checked_sound c.args.self.now in
-    let e = ap item_count c.table.ensures in
-    (omega (arith, ap length c.table.ensures, e, z.bytes), omega (arith, e, z.all, c.if-i-self.true))
+pub item-requires : goal.item-requires
+item-requires c = omega (arith, ap item_count c.sized.ensures, (checked_sound c.args.self.now).all, c.if-i-len.true, c.len.ensures)
