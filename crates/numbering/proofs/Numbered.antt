@@ -48,16 +48,10 @@ to_either s p q _ (inr (image a)) = the_later a
 either_numbered : (s : ℕ) (p q : Pattern) → Numbered s p → Numbered s q → Numbered s (either p q)
 either_numbered s p q a b =
     same_numbered (to_either s p q) (of_either s p q)
-    (sum_numbered (choice_of s (either p q)) (number_of s (either p q)) low high in_earlier in_later
+    (sum_numbered (choice_of s (either p q)) (number_of s (either p q)) (λ n h. grind arith) (λ n h. grind arith) in_earlier in_later
     (image_numbered (took earlier) (λ x. number_of s p (first x)) (λ x. refl) a)
     (image_numbered (took later) (λ x. number_of s q (first x)) (λ x. refl) b))
   where
-    low : (n : ℕ) → n < count s p → choice_of s (either p q) n ≡ took earlier (choice_of s p n)
-    low n h = grind arith
-
-    high : (n : ℕ) → count s p ≤ n → choice_of s (either p q) n ≡ took later (choice_of s q (n - count s p))
-    high n h = grind arith
-
     in_earlier : (x : Choice) → Image (Allows s p) (took earlier) x → number_of s (either p q) x ≡ number_of s p (first x)
     in_earlier _ (image a) = refl
 
@@ -106,7 +100,7 @@ above_number : (s : ℕ) (o : Order) (p : Pattern) (m a : ℕ) (x : Choice) → 
 above_number s o p m a x t =
     let e : occurring x ≡ t.0 = occurring_is s o p t.0 x t.3 in
     let f : occurring x - a ≡ suc (occurring x - suc a) = omega arith in
-    grind arith
+    rw f (omega arith)
 
 to_least : (s : ℕ) (o : Order) (p : Pattern) (a : ℕ) (x : Choice) → Occurs s o p a x → Ranges s o p 0 a x
 to_least s o p a x t = (a, omega arith, omega arith, t)

@@ -48,9 +48,6 @@ image_numbered {A} {C} {P} {c} {u} {r} f number same b = record {
     image_again : (z : C) → Image P f z → f (u (number z)) ≡ z
     image_again _ (image {x} p) = grind (arith, same x, b.again x p)
 
-positive_factor : (n c d : ℕ) → n < c * d → 0 < d
-positive_factor n c d h = grind (arith, mul-zero c)
-
 -- the first part varies slowest: quotient and rest by the number of second parts
 pub joined_numbered : {A B C : Type 0} {P : A → Type 0} {Q : B → Type 0} {c d : ℕ} {u : ℕ → A} {v : ℕ → B} {r : A → ℕ} {w : B → ℕ} (join : A → B → C) (number : C → ℕ)
     → ((x : A) (y : B) → number (join x y) ≡ r x * d + w y) → OneToOne P c u r → OneToOne Q d v w
