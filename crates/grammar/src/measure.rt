@@ -29,6 +29,7 @@ pub fn product_capped(a: u32, b: u32) -> u32
 }
 
 /// All powers of `c` from the `least`-th to the `most`-th, added up. A loop, since each is the one before times `c`.
+#[tactic(auto, using(crate::proofs::Caps::powers_more, crate::proofs::Caps::min_pow_more))]
 fn powers_capped(c: u32, least: u8, most: u8) -> u32
     ensures { result ≡ count_capped (powers c (span least most) least) }
 {

@@ -10,6 +10,6 @@ passes c j m k n p e f h = grind arith
 pub loop-times-preserved : goal.loop-times-preserved
 loop-times-preserved c = (
   c.loop-times.invariant.0 ∙ passes c.args.once _ (c.args.most - (c.loop-times.times + 1)) c.loop-times.times c.loop-times.rest _ (omega arith) (omega arith) (omega arith),
-  min_pow_more _ c.args.once c.loop-times.times _ _ c.loop-times.invariant.1 (grind arith),
+  grind (arith, min_pow_more (2 ^ 32) c.args.once c.loop-times.times),
   omega arith,
 )
