@@ -1,5 +1,5 @@
 -- Sums, products and powers of numbers that stop at a limit.
-use Rattle.std.proofs.Common.{◌≡◌, ℕ, zero, suc, ◌+◌, ◌*◌, ◌^◌, ◌<◌, ◌≤◌, min, ◌⊎◌, sym, refl, ap, ◌∙◌, inl, inr, add_assoc, mul_comm, pow-suc, mul-zero, le-mul_of_pos_right, arith}
+use Rattle.std.proofs.Common.{◌≡◌, ℕ, zero, suc, ◌+◌, ◌-◌, ◌*◌, ◌^◌, ◌≤◌, min, refl, ◌∙◌, pow-suc, mul-zero, zero-lt-suc, le-mul_of_pos_right, arith}
 use native.Mathlib.Nat.{pow-zero}
 use Rattle.std.proofs.lemmas.Bool.{cases_lt}
 use Rattle.questions.specs.Limits.{most_candidates}
@@ -8,35 +8,34 @@ use Rattle.grammar.specs.Measures.{count_capped}
 
 -- a factor may stop at the limit first
 pub min_mul_left : (m x y : ℕ) → min (min x m * y) m ≡ min (x * y) m
-min_mul_left m x y = go (cases_lt x (suc m)) y
-  where
-    go : (x < suc m) ⊎ (suc m ≤ x) → (y : ℕ) → min (min x m * y) m ≡ min (x * y) m
-    go (inl h) y = let e : min x m ≡ x = omega arith in ap (λ z. min (z * y) m) e
-    go (inr h) zero = ap (λ z. min z m) (mul-zero (min x m) ∙ sym (mul-zero x))
-    go (inr h) (suc y) =
-        let e : min x m ≡ m = omega arith in
-        let a : m ≤ min x m * suc y = rw e (le-mul_of_pos_right m (omega arith)) in
-        let b : x ≤ x * suc y = le-mul_of_pos_right x (omega arith) in
-        omega arith
+min_mul_left m x zero = grind (arith, mul-zero)
+min_mul_left m x (suc y) = grind (arith, cases_lt x m, le-mul_of_pos_right m (zero-lt-suc y), le-mul_of_pos_right x (zero-lt-suc y))
 
 pub min_mul_right : (m x y : ℕ) → min (x * min y m) m ≡ min (x * y) m
-min_mul_right m x y = ap (λ z. min z m) (mul_comm x (min y m)) ∙ (min_mul_left m y x ∙ ap (λ z. min z m) (mul_comm y x))
+min_mul_right m x y = grind (arith, min_mul_left m y x)
 
 pub capped_mul : (x y : ℕ) → count_capped (count_capped x * count_capped y) ≡ count_capped (x * y)
 capped_mul x y = min_mul_left (most_candidates + 1) x (count_capped y) ∙ min_mul_right (most_candidates + 1) x y
 
-pub capped_power_more : (c k : ℕ) → count_capped (count_capped (c ^ k) * c) ≡ count_capped (c ^ (k + 1))
-capped_power_more c k = min_mul_left (most_candidates + 1) (c ^ k) c ∙ ap count_capped (sym (pow-suc c k) ∙ ap (λ i. c ^ i) {x = suc k} {y = k + 1} (omega arith))
+-- a power that stops at m, and one more factor
+pub min_pow_more : (m c k : ℕ) → min (min (c ^ k) m * c) m ≡ min (c ^ (k + 1)) m
+min_pow_more m c k = grind (arith, min_mul_left m (c ^ k) c, pow-suc c k)
 
-pub powers_more : (c m a : ℕ) → powers c (suc m) a ≡ powers c m a + c ^ (a + m)
-powers_more c zero a = let e : a + 0 ≡ a = omega arith in rw e (omega arith)
-powers_more c (suc m) a =
-    ap (λ z. c ^ a + z) (powers_more c m (suc a)) ∙ (sym (add_assoc (c ^ a) (powers c m (suc a)) (c ^ (suc a + m))) ∙ ap (λ i. c ^ a + powers c m (suc a) + c ^ i) {x = suc a + m} {y = a + suc m} (omega arith))
+powers-suc : (c m a : ℕ) → powers c (suc m) a ≡ powers c m a + c ^ (a + m)
+powers-suc c zero a = grind arith
+powers-suc c (suc m) a = grind (arith, powers-suc c m (suc a))
+
+-- the powers below the k-th, and that one more
+pub powers_more : (c k a : ℕ) → a ≤ k → powers c (k - a) a + c ^ k ≡ powers c (k + 1 - a) a
+powers_more c k a h =
+    let next : k + 1 - a ≡ suc (k - a) = omega arith in
+    let last : a + (k - a) ≡ k = omega arith in
+    grind (arith, powers-suc c (k - a) a)
 
 capped_power : (c k : ℕ) → count_capped (count_capped c ^ k) ≡ count_capped (c ^ k)
-capped_power c zero = rw (pow-zero, pow-zero) refl
-capped_power c (suc k) = rw (pow-suc, pow-suc) (sym (min_mul_left (most_candidates + 1) (count_capped c ^ k) (count_capped c)) ∙ (ap (λ z. count_capped (z * count_capped c)) (capped_power c k) ∙ capped_mul (c ^ k) c))
+capped_power c zero = grind (arith, pow-zero)
+capped_power c (suc k) = grind (arith, pow-suc (count_capped c) k, pow-suc c k, min_mul_left (most_candidates + 1) (count_capped c ^ k) (count_capped c), capped_power c k, capped_mul (c ^ k) c)
 
 pub capped_powers : (c m a : ℕ) → count_capped (powers (count_capped c) m a) ≡ count_capped (powers c m a)
 capped_powers c zero a = refl
-capped_powers c (suc m) a = let p = capped_power c a in let q = capped_powers c m (suc a) in omega arith
+capped_powers c (suc m) a = grind (arith, capped_power c a, capped_powers c m (suc a))

@@ -4,18 +4,13 @@ use Rattle.questions.specs.Limits.{most_items, most_candidates, most_events}
 use Rattle.grammar.specs.Pattern.{Pattern, powers, span, count, len, size}
 use Rattle.grammar.specs.declared.measure.Measure.{Measure}
 
--- a number of items, choices or events, as far as one past its limit
-abbrev pub items_capped : ℕ → ℕ
-items_capped n = min n (most_items + 1)
-
+-- a number of choices, as far as one past the limit
 abbrev pub count_capped : ℕ → ℕ
 count_capped n = min n (most_candidates + 1)
 
-abbrev pub length_capped : ℕ → ℕ
-length_capped n = min n (most_events + 1)
-
+-- of so many items, choices and events, each as far as one past its limit
 abbrev pub capped : ℕ → ℕ → ℕ → Measure
-capped n c l = record { items = items_capped n; count = count_capped c; length = length_capped l }
+capped n c l = record { items = min n (most_items + 1); count = count_capped c; length = min l (most_events + 1) }
 
 -- the measure of a pattern at scope s
 abbrev pub measure_of : ℕ → Pattern → Measure

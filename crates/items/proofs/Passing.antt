@@ -1,6 +1,6 @@
 -- What it tells of an item that questions 4 to 6 have no "no", and back.
-use Rattle.std.proofs.Common.{◌≡◌, ℕ, zero, suc, ◌+◌, ◌*◌, ◌/◌, ◌%◌, ◌<◌, ◌≤◌, Bool, true, false, cond, ◌&&◌, ◌||◌, eqb, ltb, leb, ◌⊎◌, Err, sym, refl, ap, ◌∙◌, ap₂, inl, inr, arith}
-use Rattle.std.proofs.lemmas.Bool.{and_parts, and_from, or_cases, or_left, or_right, ltb-true, leb-true, eqb-true, lt-ltb, le-leb, eq-eqb, ne_eqb}
+use Rattle.std.proofs.Common.{◌≡◌, ℕ, ◌+◌, ◌*◌, ◌/◌, ◌%◌, ◌<◌, ◌≤◌, Bool, true, false, cond, ◌&&◌, ◌||◌, eqb, ltb, leb, ◌⊎◌, Err, sym, refl, ap, ◌∙◌, inl, inr, arith}
+use Rattle.std.proofs.lemmas.Bool.{false≢true, cases_lt, and_parts, and_from, or_cases, or_left, or_right, ltb-true, leb-true, eqb-true, lt-ltb, le-leb, eq-eqb}
 use Rattle.questions.specs.Limits.{most_type, most_times, scope_mark, most_events}
 use Rattle.questions.specs.declared.question.Question.TheVariants.{Kind, Argument, Takes}
 use Rattle.grammar.specs.Pattern.{most}
@@ -105,34 +105,18 @@ module _ (s : ℕ) (t : Tally) where
 
   -- every kind past the last is unknown
   unknown : (k a : ℕ) → 16 ≤ k → item_of k a ≡ Unknown
-  unknown k a h = rw (no 0 (omega arith), no 1 (omega arith), no 2 (omega arith), no 3 (omega arith), no 4 (omega arith), no 5 (omega arith), no 6 (omega arith), no 7 (omega arith), no 8 (omega arith), no 9 (omega arith), no 10 (omega arith), no 11 (omega arith), no 12 (omega arith), no 13 (omega arith), no 14 (omega arith), no 15 (omega arith)) refl
-    where
-      no : (j : ℕ) → j < 16 → eqb k j ≡ false
-      no j l = ne_eqb k j (λ e. omega arith)
+  unknown k a h = grind arith
 
-  never : false ≡ true → ⊥
-  never e = let z : ◌≡◌ {A = ℕ} 0 1 = cc in omega arith
-
-  -- the item of a kind and an argument is written by them, each kind at a time
+  -- the item of a kind and an argument is written by them, a few kinds at a time
   says : (k a : ℕ) → known (item_of k a) ≡ true → suits s t.roots (item_of k a) a ≡ true → (kind_of (item_of k a) ≡ k) × (argument_of (item_of k a) ≡ a)
-  says zero a h u = (refl, no_argument a u)
-  says (suc zero) a h u = (refl, refl)
-  says (suc (suc zero)) a h u = (refl, refl)
-  says (suc (suc (suc zero))) a h u = (refl, no_argument a u)
-  says (suc (suc (suc (suc zero)))) a h u = (refl, no_argument a u)
-  says (suc (suc (suc (suc (suc zero))))) a h u = (refl, no_argument a u)
-  says (suc (suc (suc (suc (suc (suc zero)))))) a h u = (refl, omega arith)
-  says (suc (suc (suc (suc (suc (suc (suc zero))))))) a h u = (refl, omega arith)
-  says (suc (suc (suc (suc (suc (suc (suc (suc zero)))))))) a h u = (refl, refl)
-  says (suc (suc (suc (suc (suc (suc (suc (suc (suc zero))))))))) a h u = (refl, omega arith)
-  says (suc (suc (suc (suc (suc (suc (suc (suc (suc (suc zero)))))))))) a h u = (refl, no_argument a u)
-  says (suc (suc (suc (suc (suc (suc (suc (suc (suc (suc (suc zero))))))))))) a h u = (refl, no_argument a u)
-  says (suc (suc (suc (suc (suc (suc (suc (suc (suc (suc (suc (suc zero)))))))))))) a h u = (refl, no_argument a u)
-  says (suc (suc (suc (suc (suc (suc (suc (suc (suc (suc (suc (suc (suc zero))))))))))))) a h u = (refl, no_argument a u)
-  says (suc (suc (suc (suc (suc (suc (suc (suc (suc (suc (suc (suc (suc (suc zero)))))))))))))) a h u = (refl, refl)
-  says (suc (suc (suc (suc (suc (suc (suc (suc (suc (suc (suc (suc (suc (suc (suc zero))))))))))))))) a h u = (refl, no_argument a u)
-  says (suc (suc (suc (suc (suc (suc (suc (suc (suc (suc (suc (suc (suc (suc (suc (suc k)))))))))))))))) a h u =
-      let k16 = suc (suc (suc (suc (suc (suc (suc (suc (suc (suc (suc (suc (suc (suc (suc (suc k))))))))))))))) in absurd (never (sym (ap known (unknown k16 a (omega arith))) ∙ h))
+  says k a h u = go (cases_lt k 4) (cases_lt k 8) (cases_lt k 12) (cases_lt k 16)
+    where
+      go : (k < 4) ⊎ (4 ≤ k) → (k < 8) ⊎ (8 ≤ k) → (k < 12) ⊎ (12 ≤ k) → (k < 16) ⊎ (16 ≤ k) → (kind_of (item_of k a) ≡ k) × (argument_of (item_of k a) ≡ a)
+      go (inl l) _ _ _ = grind (arith, no_argument a)
+      go (inr g) (inl l) _ _ = grind (arith, no_argument a)
+      go _ (inr g) (inl l) _ = grind (arith, no_argument a)
+      go _ _ (inr g) (inl l) = grind (arith, no_argument a)
+      go _ _ _ (inr m) = absurd (false≢true (sym (ap known (unknown k a m)) ∙ h))
 
   -- what it tells of an item that none of the three has a "no"
   pub record Passed (it : Item) (a : ℕ) : Type 0 where
@@ -214,9 +198,6 @@ low_byte a b h = omega arith
 pub high_byte : (a b : ℕ) → a < 256 → (a + 256 * b) / 256 ≡ b
 high_byte a b h = omega arith
 
-abbrev select : ℕ → ℕ → Selection
-select a b = record { root = a; event = b }
-
 -- an item that suits is the one that its kind and argument say
 pub item_back : (s r : ℕ) (it : Item) → Suited s r it → item_of (kind_of it) (argument_of it) ≡ it
 item_back s r Nothing u = refl
@@ -225,13 +206,10 @@ item_back s r (Event t) u = refl
 item_back s r (Both InOrder) u = refl
 item_back s r (Both AsSet) u = refl
 item_back s r Either u = refl
-item_back s r (Repeat InOrder x y) u = ap₂ (Repeat InOrder) (low_byte x y (omega (arith, u.0))) (high_byte x y (omega (arith, u.0)))
-item_back s r (Repeat AsSet x y) u = ap₂ (Repeat AsSet) (low_byte x y (omega (arith, u.0))) (high_byte x y (omega (arith, u.0)))
+item_back s r (Repeat InOrder x y) u = grind (arith, u.0)
+item_back s r (Repeat AsSet x y) u = grind (arith, u.0)
 item_back s r (Root t) u = refl
-item_back s r (Pick x) u =
-    let lo : (256 * x.root + x.event) % 256 ≡ x.event = omega (arith, u.1) in
-    let hi : (256 * x.root + x.event) / 256 ≡ x.root = omega (arith, u.1) in
-    ap Pick (ap₂ select hi lo)
+item_back s r (Pick x) u = grind (arith, u.1)
 item_back s r (Relate Share) u = refl
 item_back s r (Relate Coordinate) u = refl
 item_back s r (Relate AsMany) u = refl

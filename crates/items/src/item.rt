@@ -6,7 +6,7 @@ ghost use Rattle.items.specs.Items.{item_of};
 use grammar::{Order, Relation, Selection};
 
 /// An item, by its kind and argument. What it takes, it takes from the top of the stack of waiting patterns or picks.
-#[derive(Clone, Copy)]
+#[derive(Debug, Clone, Copy, PartialEq, Eq)]
 pub enum Item {
     /// Kind 0: nothing.
     Nothing,
@@ -36,8 +36,7 @@ pub enum Item {
 pub fn item_of(kind: u8, argument: u16) -> Item
     ensures { result ≡ item_of kind argument }
 {
-    let low = (argument % 256) as u8;
-    let high = (argument / 256) as u8;
+    let [low, high] = argument.to_le_bytes();
     match kind {
         0 => Item::Nothing,
         1 => Item::Atom(argument),

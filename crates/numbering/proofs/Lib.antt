@@ -1,3 +1,2 @@
-mod Occurring
 mod OneToOne
 pub mod Numbered

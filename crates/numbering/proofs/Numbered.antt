@@ -1,7 +1,7 @@
 -- Every pattern, and all roots together: numbers and choices correspond one to one.
-use Rattle.std.proofs.Common.{◌≡◌, ℕ, zero, suc, ◌+◌, ◌-◌, ◌^◌, ◌<◌, ◌≤◌, ◌⊎◌, List, [], ◌∷◌, refl, ap, ◌∙◌, inl, inr, add-zero, add_assoc, zero-add, arith}
-use native.Mathlib.Nat.{pow-zero, pow-succ', sub_self}
-use Rattle.std.proofs.lemmas.Bool.{lt-ltb, le-ltb, cases_lt, cases_eq}
+use Rattle.std.proofs.Common.{◌≡◌, ℕ, zero, suc, ◌+◌, ◌-◌, ◌^◌, ◌<◌, ◌≤◌, ◌⊎◌, List, [], ◌∷◌, refl, ap, inl, inr, add-zero, arith}
+use native.Mathlib.Nat.{pow-zero, pow-succ'}
+use Rattle.std.proofs.lemmas.Bool.{cases_lt, cases_eq}
 use Rattle.grammar.specs.Pattern.{Pattern, nothing, atom, event, both, either, repeat, most, powers, span, count}
 use Rattle.grammar.specs.Schema.{Rooted}
 use Rattle.grammar.specs.declared.part.Order.{Order}
@@ -9,7 +9,6 @@ use Rattle.numbering.specs.Choice.{Choice, empty, node, pair, took, earlier, lat
 use Rattle.numbering.specs.Allows.{Allows, no_event, one_event, inside, two, the_earlier, the_later, repeated, Occurs, none, one_more, root_pattern, Chosen, no_root, next_root}
 use Rattle.numbering.specs.Numbers.{times, occurrences, choice_of, occurring, times_number, number_of, first, number_of_choices}
 use Rattle.numbering.specs.Promises.{OneToOne, PatternsNumbered, RootsNumbered}
-use Rattle.numbering.proofs.Occurring.{occurs_here, occurs_more}
 use Rattle.numbering.proofs.OneToOne.{Image, image, Joined, joined, none_numbered, single_numbered, same_numbered, renumbered, image_numbered, joined_numbered, sum_numbered}
 
 -- a pattern's choices are numbered
@@ -49,16 +48,10 @@ to_either s p q _ (inr (image a)) = the_later a
 either_numbered : (s : ℕ) (p q : Pattern) → Numbered s p → Numbered s q → Numbered s (either p q)
 either_numbered s p q a b =
     same_numbered (to_either s p q) (of_either s p q)
-    (sum_numbered (choice_of s (either p q)) (number_of s (either p q)) low high in_earlier in_later
+    (sum_numbered (choice_of s (either p q)) (number_of s (either p q)) (λ n h. grind arith) (λ n h. grind arith) in_earlier in_later
     (image_numbered (took earlier) (λ x. number_of s p (first x)) (λ x. refl) a)
     (image_numbered (took later) (λ x. number_of s q (first x)) (λ x. refl) b))
   where
-    low : (n : ℕ) → n < count s p → choice_of s (either p q) n ≡ took earlier (choice_of s p n)
-    low n h = rw (lt-ltb n (count s p) h, choice_of) refl
-
-    high : (n : ℕ) → count s p ≤ n → choice_of s (either p q) n ≡ took later (choice_of s q (n - count s p))
-    high n h = rw (le-ltb n (count s p) h, choice_of) refl
-
     in_earlier : (x : Choice) → Image (Allows s p) (took earlier) x → number_of s (either p q) x ≡ number_of s p (first x)
     in_earlier _ (image a) = refl
 
@@ -100,16 +93,14 @@ range_number s p a x = powers (count s p) (occurring x - a) a + times_number (nu
 
 -- a occurrences are numbered first
 least_number : (s : ℕ) (o : Order) (p : Pattern) (a : ℕ) (x : Choice) → Occurs s o p a x → range_number s p a x ≡ times_number (number_of s p) (count s p) a x
-least_number s o p a x t =
-    rw (occurring_is s o p a x t)
-    (ap (λ i. powers (count s p) i a + times_number (number_of s p) (count s p) a x) (sub_self a) ∙ zero-add (times_number (number_of s p) (count s p) a x))
+least_number s o p a x t = grind (arith, occurring_is s o p a x t)
 
 -- more occurrences come after those
 above_number : (s : ℕ) (o : Order) (p : Pattern) (m a : ℕ) (x : Choice) → Ranges s o p m (suc a) x → range_number s p a x ≡ count s p ^ a + range_number s p (suc a) x
 above_number s o p m a x t =
     let e : occurring x ≡ t.0 = occurring_is s o p t.0 x t.3 in
-    ap (λ i. powers (count s p) i a + times_number (number_of s p) (count s p) (occurring x) x) {x = occurring x - a} {y = suc (occurring x - suc a)} (omega arith)
-    ∙ add_assoc (count s p ^ a) (powers (count s p) (occurring x - suc a) (suc a)) (times_number (number_of s p) (count s p) (occurring x) x)
+    let f : occurring x - a ≡ suc (occurring x - suc a) = omega arith in
+    rw f (omega arith)
 
 to_least : (s : ℕ) (o : Order) (p : Pattern) (a : ℕ) (x : Choice) → Occurs s o p a x → Ranges s o p 0 a x
 to_least s o p a x t = (a, omega arith, omega arith, t)
@@ -135,7 +126,7 @@ range_numbered s o p b zero a =
 range_numbered s o p b (suc m) a =
     same_numbered (to_range s o p m a) (of_range s o p m a)
     (sum_numbered (range_choice s o p (suc m) a) (range_number s p a)
-    (λ n h. ap chosen (occurs_here (count s p) m a n h)) (λ n h. ap chosen (occurs_more (count s p) m a n h)) (least_number s o p a) (above_number s o p m a)
+    (λ n h. grind arith) (λ n h. grind arith) (least_number s o p a) (above_number s o p m a)
     (occurs_numbered s o p b a) (range_numbered s o p b m (suc a)))
   where
     chosen : ℕ × ℕ → Choice

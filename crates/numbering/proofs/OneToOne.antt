@@ -1,8 +1,6 @@
 -- Numberings that correspond one to one, made from others.
-use Rattle.std.proofs.Common.{◌≡◌, ℕ, zero, suc, ◌+◌, ◌-◌, ◌*◌, ◌/◌, ◌%◌, ◌<◌, ◌≤◌, ◌⊎◌, ap, ◌∙◌, ap₂, inl, inr, add-sub_of_le, mul-zero, arith}
-use native.Mathlib.Nat.{add-sub_cancel_left}
-use lib.Arith.{digits_lt, digits_div, digits_mod}
-use Rattle.std.proofs.lemmas.Nat.{div_below, mod_below, div-add-mod'}
+use Rattle.std.proofs.Common.{le_refl, ◌≡◌, ℕ, ◌+◌, ◌-◌, ◌*◌, ◌/◌, ◌%◌, ◌<◌, ◌≤◌, ◌⊎◌, ap, ◌∙◌, inl, inr, mul-zero, arith}
+use Rattle.std.proofs.lemmas.Nat.{mod_below, div-add-mod', mul-add-lt, row_below_turned, div-mul-add, mod-mul-add}
 use Rattle.std.proofs.lemmas.Bool.{cases_lt}
 use Rattle.numbering.specs.Promises.{OneToOne}
 
@@ -48,11 +46,7 @@ image_numbered {A} {C} {P} {c} {u} {r} f number same b = record {
     image_below _ (image {x} p) = rw (same x) (b.below x p)
 
     image_again : (z : C) → Image P f z → f (u (number z)) ≡ z
-    image_again _ (image {x} p) = ap (λ i. f (u i)) (same x) ∙ ap f (b.again x p)
-
-positive_factor : (n c d : ℕ) → n < c * d → 0 < d
-positive_factor n c zero h = let e : n < zero = rw mul-zero at h in omega arith
-positive_factor n c (suc d) h = omega arith
+    image_again _ (image {x} p) = grind (arith, same x, b.again x p)
 
 -- the first part varies slowest: quotient and rest by the number of second parts
 pub joined_numbered : {A B C : Type 0} {P : A → Type 0} {Q : B → Type 0} {c d : ℕ} {u : ℕ → A} {v : ℕ → B} {r : A → ℕ} {w : B → ℕ} (join : A → B → C) (number : C → ℕ)
@@ -61,22 +55,21 @@ pub joined_numbered : {A B C : Type 0} {P : A → Type 0} {Q : B → Type 0} {c 
 joined_numbered {A} {B} {C} {P} {Q} {c} {d} {u} {v} {r} {w} join number same a b = record {
   allowed = λ n h. joined (a.allowed (n / d) (quotient n h)) (b.allowed (n % d) (rest n h));
   below = joined_below;
-  back = λ n h. same (u (n / d)) (v (n % d)) ∙ (ap₂ (λ i j. i * d + j) (a.back (n / d) (quotient n h)) (b.back (n % d) (rest n h)) ∙ div-add-mod' n d);
+  back = λ n h. grind (arith, same (u (n / d)) (v (n % d)), a.back (n / d) (quotient n h), b.back (n % d) (rest n h), div-add-mod' n d);
   again = joined_again;
 }
   where
     quotient : (n : ℕ) → n < c * d → n / d < c
-    quotient n h = div_below n d c (positive_factor n c d h) h
+    quotient n h = (row_below_turned n d c d h (le_refl d)).1
 
     rest : (n : ℕ) → n < c * d → n % d < d
-    rest n h = mod_below n d (positive_factor n c d h)
+    rest n h = grind (arith, mul-zero c, mod_below n d)
 
     joined_below : (z : C) → Joined P Q join z → number z < c * d
-    joined_below _ (joined {x} {y} p q) = rw (same x y) (digits_lt (a.below x p) (b.below y q))
+    joined_below _ (joined {x} {y} p q) = grind (arith, same x y, mul-add-lt (r x) d (w y) c (a.below x p) (b.below y q))
 
     joined_again : (z : C) → Joined P Q join z → join (u (number z / d)) (v (number z % d)) ≡ z
-    joined_again _ (joined {x} {y} p q) =
-        rw (same x y) (ap₂ join (ap u (digits_div (r x) (b.below y q)) ∙ a.again x p) (ap v (digits_mod (r x) (b.below y q)) ∙ b.again y q))
+    joined_again _ (joined {x} {y} p q) = grind (arith, same x y, div-mul-add (r x) d (w y) (b.below y q), mod-mul-add (r x) d (w y) (b.below y q), a.again x p, b.again y q)
 
 -- the first c numbers go to P, the next d to Q
 pub sum_numbered : {C : Type 0} {P Q : C → Type 0} {c d : ℕ} {u v : ℕ → C} {r w : C → ℕ} (choose : ℕ → C) (number : C → ℕ)
@@ -98,11 +91,11 @@ sum_numbered {C} {P} {Q} {c} {d} {u} {v} {r} {w} choose number low high in_p in_
     sum_below x (inr q) = omega (arith, in_q x q, b.below x q)
 
     sum_back : (n : ℕ) → n < c + d → (n < c) ⊎ (c ≤ n) → number (choose n) ≡ n
-    sum_back n h (inl l) = rw (low n l) (in_p (u n) (a.allowed n l) ∙ a.back n l)
+    sum_back n h (inl l) = grind (arith, low n l, in_p (u n) (a.allowed n l), a.back n l)
     sum_back n h (inr l) =
         let k : n - c < d = omega arith in
-        rw (high n l) (in_q (v (n - c)) (b.allowed (n - c) k) ∙ (ap (λ i. c + i) (b.back (n - c) k) ∙ add-sub_of_le l))
+        grind (arith, high n l, in_q (v (n - c)) (b.allowed (n - c) k), b.back (n - c) k)
 
     sum_again : (x : C) → P x ⊎ Q x → choose (number x) ≡ x
-    sum_again x (inl p) = rw (in_p x p) (low (r x) (a.below x p) ∙ a.again x p)
-    sum_again x (inr q) = rw (in_q x q) (high (c + w x) (omega arith) ∙ (ap v (add-sub_cancel_left c (w x)) ∙ b.again x q))
+    sum_again x (inl p) = grind (arith, in_p x p, low (r x) (a.below x p), a.again x p)
+    sum_again x (inr q) = grind (arith, in_q x q, high (c + w x) (omega arith), b.again x q)

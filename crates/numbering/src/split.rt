@@ -7,14 +7,15 @@ ghost use Rattle.numbering.specs.Splits.{side_at, power_capped, times_at};
 const POWER_CAP: u64 = 1 << 32;
 
 /// The side of an alternative, with the number there.
-#[derive(Clone, Copy)]
+// Not `Either` of the crate `either`: its `Left` and `Right` would not say which pattern comes first.
+#[derive(Debug, Clone, Copy, PartialEq, Eq)]
 pub enum Taken {
     Earlier(u32),
     Later(u32),
 }
 
 /// How often a pattern occurs, the number among the choices with as many occurrences, and how many those are, as far as 2^32.
-#[derive(Clone, Copy)]
+#[derive(Debug, Clone, Copy, PartialEq, Eq, Default)]
 pub struct Repeated {
     pub times: u8,
     pub number: u32,
@@ -44,36 +45,19 @@ pub fn split_side(number: u32, earlier: u32) -> Taken
     }
 }
 
-/// A product of numbers of choices, as far as 2^32.
-fn times_capped(power: u64, once: u32) -> u64
-    requires { power ≤ 2 ^ 32 }
-    ensures { result ≡ power_capped (power * once) }
-{
-    (power * u64::from(once)).min(POWER_CAP)
-}
-
-/// How many choices a pattern of `once` choices has, so many times, as far as 2^32.
-fn power_of(once: u32, times: u8) -> u64
-    ensures { result ≡ power_capped (once ^ times) }
-{
-    let mut power = 1;
-    for _i in 0..times {
-        power = times_capped(power, once);
-    }
-    power
-}
-
 /// A repetition from `least` to `most` times of a pattern with `once` choices gives the smaller counts the first numbers. A number past all
 /// of them stays with the last.
 pub fn split_times(once: u32, least: u8, most: u8, number: u32) -> Repeated
     ensures { result ≡ times_at once least most number }
 {
+    let once = u64::from(once);
     let mut times = least;
-    let mut power = power_of(once, times);
+    let mut power = once.saturating_pow(u32::from(times)).min(POWER_CAP);
     let mut rest = number;
+    // No `for`: its count would be gone where `most` ends the loop, and is returned there too.
     while times < most && u64::from(rest) >= power {
         rest -= power as u32;
-        power = times_capped(power, once);
+        power = power.saturating_mul(once).min(POWER_CAP);
         times += 1;
     }
     Repeated {

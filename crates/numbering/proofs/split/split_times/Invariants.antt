@@ -6,8 +6,8 @@ use Rattle.numbering.proofs.split.split_times.Given as goal
 
 abbrev pub invariant-loop-times : goal.invariant-loop-times
 invariant-loop-times l =
-    (occurrences l.once (l.most - l.least) l.least l.number ≡ occurrences l.once (l.most - l.times) l.times l.rest)
-    × (l.power ≡ power_capped (l.once ^ l.times))
+    (occurrences l.fn.once (l.most - l.fn.least) l.fn.least l.number ≡ occurrences l.fn.once (l.most - l.times) l.times l.rest)
+    × (l.power ≡ power_capped (l.fn.once ^ l.times))
     × (l.rest ≤ l.number)
 
 abbrev pub decreases-loop-times : goal.decreases-loop-times
