@@ -1,15 +1,14 @@
 //! What is written to a text.
 
-ghost use Rattle.std.specs.Prelude.{◌≡◌, [], ◌∷◌, ◌++◌, decimal};
-ghost use Rattle.text.specs.Room.{kept};
-ghost use Rattle.text.specs.Text.{text_of};
+ghost use Rattle.std.specs.Prelude.{◌≡◌, ◌≤◌, [], ◌∷◌, ◌++◌, length, decimal};
+ghost use Rattle.text.specs.Room.{text_room, kept};
 
 use crate::sheet::{TEXT_ROOM, Text};
 
 impl Text {
     /// No text.
     pub fn new() -> Text
-        ensures { text_of result ≡ [] }
+        ensures { result ≡ [] }
     {
         Text {
             bytes: [0; TEXT_ROOM],
@@ -19,7 +18,7 @@ impl Text {
 
     /// Adds a byte.
     pub fn push(&mut self, byte: u8)
-        ensures { text_of self.new ≡ kept (text_of self.old ++ (byte ∷ [])) }
+        ensures { self.new ≡ kept (self.old ++ (byte ∷ [])) }
     {
         if self.len < TEXT_ROOM {
             self.bytes[self.len] = byte;
@@ -29,16 +28,17 @@ impl Text {
 
     /// Adds some bytes.
     pub fn push_all(&mut self, more: &[u8])
-        ensures { text_of self.new ≡ kept (text_of self.old ++ more.now) }
+        ensures { self.new ≡ kept (self.old ++ more.now) }
     {
-        for byte in more {
-            self.push(*byte);
-        }
+        let fits = more.len().min(TEXT_ROOM - self.len);
+        let end = self.len + fits;
+        self.bytes[self.len..end].copy_from_slice(&more[..fits]);
+        self.len = end;
     }
 
     /// Adds a number in decimal: first all digits but the last, where there are more, and then the last.
     pub fn push_decimal(&mut self, n: u64)
-        ensures { text_of self.new ≡ kept (text_of self.old ++ decimal n) }
+        ensures { self.new ≡ kept (self.old ++ decimal n) }
     {
         if n >= 10 {
             self.push_decimal(n / 10);
@@ -48,8 +48,9 @@ impl Text {
 
     /// The bytes of the text.
     pub fn as_bytes(&self) -> &[u8]
-        ensures { result.now ≡ text_of self.now }
+        ensures says { result.now ≡ self.now }
+        ensures within { length self.now ≤ text_room }
     {
-        &self.bytes[0..self.len]
+        &self.bytes[..self.len]
     }
 }
