@@ -56,11 +56,7 @@ fn push_number(text: &mut Text, schema: &Checked, number: Option<u32>)
     ensures pushed { text.new ≡ kept (text.old ++ number_lines (table_of schema.now) schema.now.scope number) }
     ensures short { length (number_lines (table_of schema.now) schema.now.scope number) ≤ most_line * most_events }
 {
-    let Some(number) = number else {
-        text.push_all(b"none\n");
-        return;
-    };
-    match lay(schema, number, schema.roots()) {
+    match number.and_then(|number| lay(schema, number, schema.roots())) {
         Some(laid) => push_events(text, &laid),
         None => text.push_all(b"none\n"),
     }
