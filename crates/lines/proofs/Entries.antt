@@ -9,6 +9,7 @@ use Rattle.grammar.specs.Schema.{Rooted}
 use Rattle.schema.specs.Plans.{no_root, entries, plan_of}
 use Rattle.schema.specs.Questions.{verdict}
 use Rattle.schema.specs.Reading.{schema_of}
+use Rattle.schema.specs.declared.plan.Plan.{Plan}
 use Rattle.schema.specs.declared.plan.Root.{Root}
 use Rattle.lines.specs.Card.{root_line, root_lines, total_line, answer_lines, card, entry_line, entry_lines}
 
@@ -37,15 +38,19 @@ entries_lines s i (r ∷ rs) =
     ap (λ o. cond o [] (root_line r.event (count s r.pattern) (len s r.pattern + 1)) ++ entry_lines (entries s (i + size r.pattern + 1) rs)) (ne_eqb (len s r.pattern + 1) 0 (λ e. omega arith))
     ∙ ap (λ l. root_line r.event (count s r.pattern) (len s r.pattern + 1) ++ l) (entries_lines s (i + size r.pattern + 1) rs)
 
-pub plan_lines : (s : ℕ) (rs : List Rooted) → entry_lines (plan_of s rs).roots ≡ root_lines s rs
+plan_lines : (s : ℕ) (rs : List Rooted) → entry_lines (plan_of s rs).roots ≡ root_lines s rs
 plan_lines s rs =
     entry_lines-append (entries s 0 rs) (replicate (most_roots - length rs) no_root)
     ∙ (ap (λ l. entry_lines (entries s 0 rs) ++ l) (no_lines (most_roots - length rs)) ∙ (append-nil (entry_lines (entries s 0 rs)) ∙ entries_lines s 0 rs))
 
 -- the card of an accepted table, and of a refused one
-pub card_yes : (b : List ℕ) (s n : ℕ) → verdict b s ≡ Ok n → card b s ≡ root_lines s (schema_of b).roots ++ total_line n
+card_yes : (b : List ℕ) (s n : ℕ) → verdict b s ≡ Ok n → card b s ≡ root_lines s (schema_of b).roots ++ total_line n
 unfolding card
 card_yes b s n e = ap (answer_lines s (schema_of b).roots) e
+
+-- that of an accepted table by the entries of its plan
+pub card_planned : (b : List ℕ) (s n : ℕ) (p : Plan) → verdict b s ≡ Ok n → p ≡ plan_of s (schema_of b).roots → card b s ≡ entry_lines p.roots ++ total_line n
+card_planned b s n p v e = card_yes b s n v ∙ sym (ap (λ l. l ++ total_line n) (ap (λ (x : Plan). entry_lines x.roots) e ∙ plan_lines s (schema_of b).roots))
 
 pub card_no : (b : List ℕ) (s : ℕ) (r : Refusal) → verdict b s ≡ Err r → card b s ≡ answer_lines s [] (Err r)
 unfolding card

@@ -11,7 +11,7 @@ pub fn scope_said(argument: &[u8]) -> u8
     ensures { result ≡ scope_said argument.now }
 {
     match argument {
-        [digit] if *digit >= b'0' && *digit <= b'9' => *digit - b'0',
+        [digit @ b'0'..=b'9'] => *digit - b'0',
         _ => 0,
     }
 }
@@ -20,29 +20,21 @@ pub fn scope_said(argument: &[u8]) -> u8
 fn number_more(number: u32, digit: u8) -> Option<u32>
     ensures { result ≡ number_more number digit }
 {
-    if digit < b'0' || digit > b'9' {
-        return None;
-    }
-    let more = 10 * u64::from(number) + u64::from(digit - b'0');
-    if more > 0xffff_ffff {
-        return None;
-    }
-    Some(more as u32)
+    let digit = char::from(digit).to_digit(10)?;
+    number.checked_mul(10)?.checked_add(digit)
 }
 
 /// The number that an argument says in decimal, with ten digits at most; none where it says none, or one of more than 32 bits.
+// `str::parse` does not serve: it takes a sign before the digits.
 pub fn number_said(argument: &[u8]) -> Option<u32>
     ensures { result ≡ number_said argument.now }
 {
-    if argument.len() < 1 || argument.len() > MOST_DIGITS {
+    if argument.is_empty() || argument.len() > MOST_DIGITS {
         return None;
     }
     let mut number = 0;
     for digit in argument {
-        match number_more(number, *digit) {
-            Some(more) => number = more,
-            None => return None,
-        }
+        number = number_more(number, *digit)?;
     }
     Some(number)
 }

@@ -5,12 +5,11 @@ ghost use Rattle.questions.specs.Limits.{most_events};
 ghost use Rattle.rows.specs.Row.{value};
 ghost use Rattle.schema.specs.Told.{table_of};
 ghost use Rattle.laying.specs.Lays.{shown};
-ghost use Rattle.text.specs.Room.{kept};
-ghost use Rattle.text.specs.Text.{text_of};
+ghost use Rattle.text.specs.Room.{text_room, kept};
 ghost use Rattle.lines.specs.Card.{most_line};
 ghost use Rattle.lines.specs.Laid.{around_word, event_line, event_lines, number_lines, laid_text};
 
-use crate::refused::push_refusal;
+use crate::refused::write_refusal;
 use laying::{Laid, lay};
 use rows::Row;
 use schema::Checked;
@@ -18,7 +17,7 @@ use text::Text;
 
 /// Adds the place of the nearest event around, or `-`.
 fn push_around(text: &mut Text, around: Option<u8>)
-    ensures pushed { text_of text.new ≡ kept (text_of text.old ++ around_word around) }
+    ensures pushed { text.new ≡ kept (text.old ++ around_word around) }
     ensures short { length (around_word around) ≤ 3 }
 {
     match around {
@@ -29,7 +28,7 @@ fn push_around(text: &mut Text, around: Option<u8>)
 
 /// Adds the line of an event.
 fn push_event(text: &mut Text, event: u8, around: Option<u8>, precedes: Row)
-    ensures pushed { text_of text.new ≡ kept (text_of text.old ++ event_line event around (value precedes)) }
+    ensures pushed { text.new ≡ kept (text.old ++ event_line event around (value precedes)) }
     ensures short { length (event_line event around (value precedes)) ≤ most_line }
 {
     text.push_decimal(u64::from(event));
@@ -42,7 +41,8 @@ fn push_event(text: &mut Text, event: u8, around: Option<u8>, precedes: Row)
 
 /// Adds the lines of all events.
 fn push_events(text: &mut Text, laid: &Laid)
-    ensures pushed { text_of text.new ≡ kept (text_of text.old ++ event_lines (shown laid.now)) }
+    requires { length text.old ≤ text_room }
+    ensures pushed { text.new ≡ kept (text.old ++ event_lines (shown laid.now)) }
     ensures short { length (event_lines (shown laid.now)) ≤ most_line * most_events }
 {
     for i in 0..laid.len {
@@ -52,14 +52,11 @@ fn push_events(text: &mut Text, laid: &Laid)
 
 /// Adds the lines of the candidate of this number.
 fn push_number(text: &mut Text, schema: &Checked, number: Option<u32>)
-    ensures pushed { text_of text.new ≡ kept (text_of text.old ++ number_lines (table_of schema.now) schema.now.scope number) }
+    requires { length text.old ≤ text_room }
+    ensures pushed { text.new ≡ kept (text.old ++ number_lines (table_of schema.now) schema.now.scope number) }
     ensures short { length (number_lines (table_of schema.now) schema.now.scope number) ≤ most_line * most_events }
 {
-    let Some(number) = number else {
-        text.push_all(b"none\n");
-        return;
-    };
-    match lay(schema, number, schema.roots()) {
+    match number.and_then(|number| lay(schema, number, schema.roots())) {
         Some(laid) => push_events(text, &laid),
         None => text.push_all(b"none\n"),
     }
@@ -67,12 +64,14 @@ fn push_number(text: &mut Text, schema: &Checked, number: Option<u32>)
 
 /// The events that a candidate of a table lays at a scope.
 pub fn laid_text(table: &[u8], scope: u8, number: Option<u32>) -> Text
-    ensures { text_of result ≡ laid_text table.now scope number }
+    ensures { result ≡ laid_text table.now scope number }
 {
     let mut text = Text::new();
     match Checked::of(table, scope) {
         Ok(schema) => push_number(&mut text, &schema, number),
-        Err(refusal) => push_refusal(&mut text, refusal),
+        Err(refusal) => {
+            let Ok(()) = write_refusal(&mut text, refusal);
+        }
     }
     text
 }

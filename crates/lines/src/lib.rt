@@ -4,11 +4,10 @@
 
 mod argument;
 mod card;
-mod fixed_card;
 mod laid;
+mod page;
 mod refused;
 
 pub use argument::{number_said, scope_said};
-pub use card::card_of;
-pub use fixed_card::card_text;
+pub use card::{card_of, card_text};
 pub use laid::laid_text;

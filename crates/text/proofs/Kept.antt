@@ -1,9 +1,10 @@
 -- What is kept of a list that is added to.
-use Rattle.std.proofs.Common.{◌≡◌, ℕ, zero, suc, ◌+◌, ◌<◌, ◌≤◌, List, [], ◌∷◌, ◌++◌, length, take, set, decimal, sym, refl, ap, ◌∙◌, append_assoc, append-nil, arith, length-take}
-use Rattle.std.proofs.lemmas.List.{take_all, take-append-le, take_more_set, length_push}
+use Rattle.std.proofs.Common.{◌≡◌, ℕ, zero, suc, ◌+◌, ◌-◌, ◌<◌, ◌≤◌, List, [], ◌∷◌, ◌++◌, length, min, take, set, decimal, sym, refl, ap, ◌∙◌, append_assoc, append-nil, arith, length-take}
+use Rattle.std.proofs.Math.Seq.{take-append-add}
+use Rattle.std.proofs.lemmas.List.{take_all, take-append-le, take_min, take_more_set, length_push}
+use Rattle.std.proofs.lemmas.Slice.{take-put_mid}
+use borrow.Rule.Slice.PartMut.{put_mid}
 use Rattle.text.specs.Room.{text_room, kept}
-use Rattle.text.specs.Text.{text_of}
-use Rattle.text.specs.declared.sheet.Text.{Text}
 
 take_front : {X : Type 0} (n : ℕ) (xs ys : List X) → take n (take n xs ++ ys) ≡ take n (xs ++ ys)
 take_front zero xs ys = refl
@@ -32,10 +33,14 @@ kept_whole t u xs e p h = p ∙ (ap (λ l. kept (l ++ xs)) e ∙ kept_all xs h)
 pub kept_number : (t u : List ℕ) (m n : ℕ) → m ≡ n → u ≡ kept (t ++ decimal m) → u ≡ kept (t ++ decimal n)
 kept_number t u m n e p = p ∙ ap (λ k. kept (t ++ decimal k)) e
 
--- a text fits, so nothing is left out of it
-pub kept_text : (t : Text) → text_of t ≡ kept (text_of t ++ [])
-unfolding text_of
-kept_text t = sym (ap kept (append-nil (take t.len t.bytes)) ∙ kept_all (take t.len t.bytes) (omega (arith, length-take t.len t.bytes, t.within)))
+-- what is kept fits
+pub kept_fits : (t xs : List ℕ) → t ≡ kept xs → length t ≤ text_room
+unfolding kept
+kept_fits t xs e = omega (arith, ap length e, length-take text_room xs)
+
+-- of a text that fits nothing is left out
+pub kept_text : (t : List ℕ) → length t ≤ text_room → t ≡ kept (t ++ [])
+kept_text t h = sym (ap kept (append-nil t) ∙ kept_all t h)
 
 -- One byte more.
 
@@ -48,3 +53,15 @@ pub no_more : (n : ℕ) (xs ys : List ℕ) → n ≡ text_room → n ≤ length 
 unfolding kept
 no_more n xs ys e h =
     sym (ap (λ k. take k (take n xs ++ ys)) (sym e) ∙ (take-append-le n (take n xs) ys (omega (arith, length-take n xs)) ∙ take_all n (take n xs) (omega (arith, length-take n xs))))
+
+-- and some bytes more, as many as there is room for
+pub some_more : (n m k : ℕ) (xs ys zs : List ℕ) → n ≤ text_room → n ≤ length xs → m ≡ min (length ys) (text_room - n) → zs ≡ take m ys → take (n + m) (put_mid n k xs zs) ≡ kept (take n xs ++ ys)
+unfolding kept
+some_more n m k xs ys zs r h e p =
+    let l : length (take n xs) ≡ n = simp length-take (omega arith) in
+    let z : length zs ≡ m = rw p (simp length-take (omega arith)) in
+    let fits : m ≡ min (text_room - n) (length ys) = omega arith in
+    let j : length (take n xs) + (text_room - n) ≡ text_room = omega arith in
+    take-put_mid n k xs zs (n + m) (omega arith) h
+    ∙ (ap (λ l. take n xs ++ l) (p ∙ (ap (λ i. take i ys) fits ∙ take_min (text_room - n) ys))
+    ∙ (sym (take-append-add (take n xs) ys (text_room - n)) ∙ ap (λ i. take i (take n xs ++ ys)) j))

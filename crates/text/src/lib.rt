@@ -3,6 +3,5 @@
 #![tactic(auto)]
 
 pub mod sheet;
-mod write;
 
 pub use sheet::Text;

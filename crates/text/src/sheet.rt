@@ -1,7 +1,9 @@
-//! The room of a text.
+//! A text in fixed room, and what is written to it.
 
-ghost use Rattle.std.specs.Prelude.{◌≤◌};
-ghost use Rattle.text.specs.Room.{text_room};
+ghost use Rattle.std.specs.Prelude.{ℕ, ◌≡◌, ◌≤◌, List, [], ◌∷◌, ◌++◌, length, take, decimal};
+ghost use Rattle.text.specs.Room.{text_room, kept};
+
+use std::marker::Model;
 
 /// How many bytes a text has room for.
 pub const TEXT_ROOM: usize = 2048;
@@ -9,7 +11,65 @@ pub const TEXT_ROOM: usize = 2048;
 /// The first `len` bytes are the text.
 #[derive(Drop)]
 pub struct Text {
-    pub(crate) bytes: [u8; TEXT_ROOM],
-    pub(crate) len: usize,
-    ghost within: { len ≤ text_room },
+    bytes: [u8; TEXT_ROOM],
+    len: usize,
+}
+
+/// Clauses see what the text says, as a list of bytes.
+impl Model for Text {
+    ghost Value = { List ℕ };
+
+    ghost view = { λ t. take t.len t.bytes };
+
+    ghost invariant = { λ t. t.len ≤ text_room };
+}
+
+impl Text {
+    /// No text.
+    pub fn new() -> Text
+        ensures { result ≡ [] }
+    {
+        Text {
+            bytes: [0; TEXT_ROOM],
+            len: 0,
+        }
+    }
+
+    /// Adds a byte.
+    pub fn push(&mut self, byte: u8)
+        ensures { self.new ≡ kept (self.old ++ (byte ∷ [])) }
+    {
+        if self.len < TEXT_ROOM {
+            self.bytes[self.len] = byte;
+            self.len += 1;
+        }
+    }
+
+    /// Adds some bytes.
+    pub fn push_all(&mut self, more: &[u8])
+        ensures { self.new ≡ kept (self.old ++ more.now) }
+    {
+        let fits = more.len().min(TEXT_ROOM - self.len);
+        let end = self.len + fits;
+        self.bytes[self.len..end].copy_from_slice(&more[..fits]);
+        self.len = end;
+    }
+
+    /// Adds a number in decimal: first all digits but the last, where there are more, and then the last.
+    pub fn push_decimal(&mut self, n: u64)
+        ensures { self.new ≡ kept (self.old ++ decimal n) }
+    {
+        if n >= 10 {
+            self.push_decimal(n / 10);
+        }
+        self.push(b'0' + (n % 10) as u8);
+    }
+
+    /// The bytes of the text.
+    pub fn as_bytes(&self) -> &[u8]
+        ensures says { result.now ≡ self.now }
+        ensures within { length self.now ≤ text_room }
+    {
+        &self.bytes[..self.len]
+    }
 }

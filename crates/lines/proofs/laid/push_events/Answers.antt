@@ -2,14 +2,13 @@ use Rattle.std.proofs.Common.{◌≤◌, ◌++◌, length, get_or, None, sym, ap
 use Rattle.rows.specs.Row.{value, no_row}
 use Rattle.laying.specs.Lays.{shown}
 use Rattle.text.specs.Room.{kept}
-use Rattle.text.specs.Text.{text_of}
 use Rattle.text.proofs.Kept.{kept_then, kept_text}
 use Rattle.lines.specs.Laid.{event_line, first_lines}
 use Rattle.lines.proofs.Events.{shown_more, shown_all}
 use Rattle.lines.proofs.laid.push_events.Goals as goal
 
 pub loop-i-init : goal.loop-i-init
-loop-i-init c = (kept_text c.args.text.now, omega arith)
+loop-i-init c = (kept_text c.args.text.now c.requires, omega arith)
 
 pub loop-i-preserved : goal.loop-i-preserved
 loop-i-preserved c =
@@ -18,7 +17,7 @@ loop-i-preserved c =
     let done = first_lines (shown l) i in
     let line = event_line (get_or l.types i 0) (get_or l.around i None) (value (get_or l.precedes i no_row)) in
     let e = shown_more l i c.loop-i-test.true in (
-      kept_then _ _ _ done line c.loop-i.invariant.0 c.push_event.ensures.pushed ∙ ap (λ x. kept (text_of c.args.text.now ++ x)) (sym e),
+      kept_then _ _ _ done line c.loop-i.invariant.0 c.push_event.ensures.pushed ∙ ap (λ x. kept (c.args.text.now ++ x)) (sym e),
       omega (arith, ap length e, length-append done line, c.loop-i.invariant.1, c.push_event.ensures.short),
     )
 
@@ -28,6 +27,6 @@ returns c =
     let all : l.len ≤ length l.types = search rules in
     let e = shown_all l c.loop-i.i (omega (arith, c.loop-i-test.false, c.loop-i.auto.i-end)) all in
     record {
-      pushed = c.loop-i.invariant.0 ∙ ap (λ x. kept (text_of c.args.text.now ++ x)) e;
+      pushed = c.loop-i.invariant.0 ∙ ap (λ x. kept (c.args.text.now ++ x)) e;
       short = omega (arith, c.loop-i.invariant.1, ap length e, l.events_few, c.loop-i.auto.i-end);
     }

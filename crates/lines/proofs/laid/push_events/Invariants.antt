@@ -1,10 +1,9 @@
 use Rattle.std.proofs.Common.{◌≡◌, ◌*◌, ◌≤◌, ◌++◌, length}
 use Rattle.laying.specs.Lays.{shown}
 use Rattle.text.specs.Room.{kept}
-use Rattle.text.specs.Text.{text_of}
 use Rattle.lines.specs.Card.{most_line}
 use Rattle.lines.specs.Laid.{first_lines}
 use Rattle.lines.proofs.laid.push_events.Given as goal
 
 abbrev pub invariant-loop-i : goal.invariant-loop-i
-invariant-loop-i l = (text_of l.text ≡ kept (text_of l.initial.text ++ first_lines (shown l.laid) l.i)) × (length (first_lines (shown l.laid) l.i) ≤ most_line * l.i)
+invariant-loop-i l = (l.text ≡ kept (l.initial.text ++ first_lines (shown l.laid) l.i)) × (length (first_lines (shown l.laid) l.i) ≤ most_line * l.i)

@@ -1,0 +1,73 @@
+//! What a card is written to: a text in fixed room, or one on the heap.
+
+ghost use Rattle.std.specs.Prelude.{◌≡◌, ℕ, ◌≤◌, List, [], ◌++◌, OnOk, length, decimal, string_bytes};
+ghost use Rattle.text.specs.Room.{text_room, kept};
+ghost use Rattle.text.proofs.Kept.{kept_then, kept_fits, kept_text};
+
+use std::alloc::AllocError;
+use std::convert::Infallible;
+use std::fmt::Write;
+use text::Text;
+
+/// What words are added to.
+pub(crate) trait Page {
+    /// Why a word is not added.
+    type Error;
+
+    // the last page is the first with these bytes added
+    ghost adds: { Self → List ℕ → Self → Type 0 };
+
+    /// Adds a word.
+    fn add(&mut self, word: &str) -> Result<(), Self::Error>
+        ensures { OnOk result (adds self.old word.now self.new) };
+
+    /// Adds a number in decimal.
+    fn add_number(&mut self, n: u64) -> Result<(), Self::Error>
+        ensures { OnOk result (adds self.old (decimal n) self.new) };
+
+    ghost adds_nothing: { (p : Self) → adds p [] p };
+
+    ghost adds_append: { (p q r : Self) (xs ys : List ℕ) → adds p xs q → adds q ys r → adds p (xs ++ ys) r };
+}
+
+/// What has no room is left out, so nothing fails.
+impl Page for Text {
+    type Error = Infallible;
+
+    ghost adds = { λ p xs q. length p ≤ text_room → q ≡ kept (p ++ xs) };
+
+    ghost adds_nothing = { kept_text };
+
+    ghost adds_append = { λ p q r xs ys h k fits. kept_then p q r xs ys (h fits) (k (kept_fits q (p ++ xs) (h fits))) };
+
+    fn add(&mut self, word: &str) -> Result<(), Infallible> {
+        self.push_all(word.as_bytes());
+        Ok(())
+    }
+
+    fn add_number(&mut self, n: u64) -> Result<(), Infallible> {
+        self.push_decimal(n);
+        Ok(())
+    }
+}
+
+/// The heap may have no room.
+impl Page for String {
+    type Error = AllocError;
+
+    ghost use Rattle.std.proofs.Common.{sym, ap, ◌∙◌, append_assoc, append-nil};
+
+    ghost adds = { λ p xs q. string_bytes q ≡ string_bytes p ++ xs };
+
+    ghost adds_nothing = { λ p. sym (append-nil (string_bytes p)) };
+
+    ghost adds_append = { λ p q r xs ys h k. k ∙ (ap (λ l. l ++ ys) h ∙ append_assoc (string_bytes p) xs ys) };
+
+    fn add(&mut self, word: &str) -> Result<(), AllocError> {
+        self.push_str(word)
+    }
+
+    fn add_number(&mut self, n: u64) -> Result<(), AllocError> {
+        write!(self, "{n}").map_err(|_| AllocError)
+    }
+}
