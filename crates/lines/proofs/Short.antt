@@ -1,7 +1,7 @@
 -- How long the lines are at most.
 use Rattle.std.proofs.Common.{ℕ, ◌^◌, ◌<◌, ◌≤◌, ◌++◌, length, Some, decimal, Option, arith, length-append}
 use Rattle.std.proofs.lemmas.Fmt.{length-decimal-le}
-use Rattle.questions.specs.Numbers.{number_of, refusal_line}
+use Rattle.questions.specs.Numbers.{number_of, item_shown, refusal_line}
 use Rattle.questions.specs.declared.refusal.Refusal.{Refusal}
 use Rattle.lines.specs.Card.{line_end, most_line, root_line, total_line}
 use Rattle.lines.specs.Laid.{around_word, event_line}
@@ -18,8 +18,8 @@ short_total n h = simp length-append (omega (arith, digits_32 n h))
 pub short_root : (t n l : ℕ) → t < 256 → n < 2 ^ 32 → l < 256 → length (root_line t n l) ≤ most_line
 short_root t n l ht hn hl = simp length-append (omega (arith, digits_8 t ht, digits_32 n hn, digits_8 l hl))
 
-pub short_refusal : (r : Refusal) → number_of r.question < 256 → r.item < 256 → length (refusal_line r ++ line_end) ≤ most_line
-short_refusal r hq hi = simp length-append (omega (arith, digits_8 (number_of r.question) hq, digits_8 r.item hi))
+pub short_refusal : (r : Refusal) → number_of r.question < 256 → item_shown r.item < 256 → length (refusal_line r ++ line_end) ≤ most_line
+short_refusal r hq hi = simp length-append (omega (arith, digits_8 (number_of r.question) hq, digits_8 (item_shown r.item) hi))
 
 pub short_around : (n : ℕ) → n < 256 → length (around_word (Some n)) ≤ 3
 short_around n h = digits_8 n h

@@ -6,6 +6,7 @@ ghost use Rattle.lines.specs.Card.{line_end, most_line};
 
 use crate::page::Page;
 use questions::Refusal;
+use questions::limits::NO_ITEM;
 
 /// Writes `no QUESTION ITEM`, and ends the line.
 pub(crate) fn write_refusal<P: Page>(page: &mut P, refusal: Refusal) -> Result<(), P::Error>
@@ -15,6 +16,6 @@ pub(crate) fn write_refusal<P: Page>(page: &mut P, refusal: Refusal) -> Result<(
     page.add("no ")?;
     page.add_number(u64::from(refusal.question.number()))?;
     page.add(" ")?;
-    page.add_number(u64::from(refusal.item))?;
+    page.add_number(u64::from(refusal.item.unwrap_or(NO_ITEM)))?;
     page.add("\n")
 }

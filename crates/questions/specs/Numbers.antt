@@ -1,5 +1,5 @@
 -- The numbers of the questions, and the line that shows a refusal. Assumes nothing.
-use Rattle.std.specs.Prelude.{ℕ, List, ◌++◌, Some, None, codes, decimal, Option}
+use Rattle.std.specs.Prelude.{ℕ, List, ◌++◌, None, codes, decimal, Option, unwrap_or}
 use Rattle.questions.specs.Limits.{no_item}
 use Rattle.questions.specs.declared.question.Question.{Question}
 use Rattle.questions.specs.declared.question.Question.TheVariants.{Bytes, Sizes, Scope, Kind, Argument, Takes, Sharing, Count, Length, Whole, Total, Events}
@@ -24,8 +24,7 @@ abbrev pub of_no_item : Question → Refusal
 of_no_item q = record { question = q; item = None }
 
 abbrev pub item_shown : Option ℕ → ℕ
-item_shown (Some i) = i
-item_shown None = no_item
+item_shown o = unwrap_or o no_item
 
 -- `no QUESTION ITEM`
 abbrev pub refusal_line : Refusal → List ℕ
