@@ -28,7 +28,7 @@ pub enum Item {
     Relate(Relation),
     /// Kind 14: at most so many events of one pick.
     AtMost(u16),
-    /// Any other kind.
+    /// Any other kind. A case and no `None` around the item: any kind is read, and what reads it, matches on, before question 4 is asked.
     Unknown,
 }
 

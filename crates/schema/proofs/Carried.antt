@@ -93,7 +93,7 @@ pub carried_plan : (b : List ℕ) (s : ℕ) (p : Plan) → PlansRoots b s p → 
 unfolding made
 carried_plan b s p h = ap made (same_roots p.roots (plan_of s (schema_of b).roots).roots h)
 
-length-entries : (s i : ℕ) (rs : List Rooted) → length (entries s i rs) ≡ length rs
+pub length-entries : (s i : ℕ) (rs : List Rooted) → length (entries s i rs) ≡ length rs
 length-entries s i [] = refl
 length-entries s i (r ∷ rs) = ap suc (length-entries s (i + size r.pattern + 1) rs)
 

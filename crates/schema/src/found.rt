@@ -1,6 +1,7 @@
 //! What a checked table tells.
 
 ghost use Rattle.std.specs.Prelude.{◌≡◌, length};
+ghost use Rattle.schema.specs.Plans.{entries};
 ghost use Rattle.schema.specs.Reading.{schema_of};
 ghost use Rattle.schema.specs.Told.{table_of, item_found, measure_found, root_found};
 
@@ -44,6 +45,15 @@ impl Checked {
         ensures { result ≡ length (schema_of (table_of self.now)).roots }
     {
         self.sized().roots()
+    }
+
+    // Past the last item or root there is no `None`, since these calls cannot fail.
+
+    /// The roots, in order.
+    pub fn planned(&self) -> &[Root]
+        ensures { result.now ≡ entries self.now.scope 0 (schema_of (table_of self.now)).roots }
+    {
+        &self.plan.roots[..self.roots()]
     }
 
     /// Item `i`; past the last, an unknown one.

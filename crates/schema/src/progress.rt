@@ -17,7 +17,7 @@ use grammar::{Measure, Selection};
 use items::{Item, Tally, ask_item, ask_measure};
 use questions::Question;
 
-/// What stands for a pick where none waits.
+/// What stands for a pick where none waits. No `Option`: how many wait is in the tally, and only a pick that waits is asked about.
 const NO_SELECTION: Selection = Selection { root: 0, event: 0 };
 
 /// A check at a scope, and what the items so far leave: what is closed and what waits, the latest two picks, the total and the length of
@@ -76,7 +76,9 @@ impl Progress {
         requires within { i < item_count table.now }
         requires counted { Counted table.now i self.old }
         requires passed { asked_at table.now self.old.scope i ≡ passes }
-        requires measured { (m ≡ measure_of self.old.scope (made_at table.now i)) × ((m.count ≤ most_candidates) × (m.length ≤ most_events)) }
+        requires measured { m ≡ measure_of self.old.scope (made_at table.now i) }
+        requires count { m.count ≤ most_candidates }
+        requires length { m.length ≤ most_events }
         ensures counted { Counted table.now (suc i) self.new }
         ensures scope { self.new.scope ≡ self.old.scope }
         ensures known { self.new.known ≡ self.old.known }

@@ -52,10 +52,10 @@ returns-in-Root c =
     let t = c.in-Root.event in
     let is = c.in-Root.ensures.item in
     let e : c.args.m ≡ measure_of c.args.self.now.scope (event t (top (state c.args.table.now c.args.i).patterns)) =
-    c.requires.measured.0 ∙ ap (λ x. measure_of c.args.self.now.scope (made x (state c.args.table.now c.args.i).patterns)) (sym is) in
+    c.requires.measured ∙ ap (λ x. measure_of c.args.self.now.scope (made x (state c.args.table.now c.args.i).patterns)) (sym is) in
     record {
       counted = closes c.args.table.now c.args.i c.args.self.now c.requires.counted t is c.item.ensures.sized
-          (found_at c.args.table.now c.args.self.now.scope c.args.i (Root t) c.requires.passed is) c.args.m e c.requires.measured.1.0 c.requires.measured.1.1 _
+          (found_at c.args.table.now c.args.self.now.scope c.args.i (Root t) c.requires.passed is) c.args.m e c.requires.count c.requires.length _
           refl refl refl refl c.product_capped-self.ensures (ap (λ x. c.args.self.now.length + x) c.from.ensures) c.close.ensures;
       scope = refl;
       known = refl;

@@ -50,10 +50,11 @@ returns-in_err-ask_measure-clause-answer c =
 pub settle-requires-clause-passed : goal.settle-requires-clause-passed
 settle-requires-clause-passed c = said_asked c.args.table.now c.args.i c.args.self.now c.requires.holds.counted _ _ c.in_ok-ask_item.was c.item-item.result c.argument.result c.item-item.ensures.item c.argument.ensures c.ask_item.ensures
 
-pub settle-requires-clause-measured : goal.settle-requires-clause-measured
-settle-requires-clause-measured c =
-    let z = sized_none c.measure_made-m.result.count c.measure_made-m.result.length (sym c.ask_measure.ensures ∙ c.in_ok-ask_measure.was) in
-    (c.measure_made-m.ensures, (z.0, z.1))
+pub settle-requires-clause-count : goal.settle-requires-clause-count
+settle-requires-clause-count c = (sized_none c.measure_made-m.result.count c.measure_made-m.result.length (sym c.ask_measure.ensures ∙ c.in_ok-ask_measure.was)).0
+
+pub settle-requires-clause-length : goal.settle-requires-clause-length
+settle-requires-clause-length c = (sized_none c.measure_made-m.result.count c.measure_made-m.result.length (sym c.ask_measure.ensures ∙ c.in_ok-ask_measure.was)).1
 
 pub returns-clause-answer : goal.returns-clause-answer
 returns-clause-answer c =
