@@ -6,7 +6,6 @@ ghost use Rattle.grammar.specs.Pattern.{count, len};
 ghost use Rattle.grammar.specs.Fits.{Fits};
 ghost use Rattle.numbering.specs.Numbers.{choice_of, times};
 ghost use Rattle.rows.specs.Bits.{mask};
-ghost use Rattle.rows.specs.Row.{value};
 ghost use Rattle.schema.specs.Reading.{pattern_at};
 ghost use Rattle.schema.specs.Progress.{Ends};
 ghost use Rattle.schema.specs.Told.{table_of};
@@ -41,7 +40,7 @@ pub(crate) fn lay_pattern(
     requires layable { Layable (table_of schema.now) schema.now.scope i number }
     requires room { laid.old.len + len schema.now.scope (pattern_at (table_of schema.now) i) ≤ most_events }
     ensures lays { Lays around (choice_of schema.now.scope (pattern_at (table_of schema.now) i) number) laid.old laid.new }
-    ensures tops { value result ≡ mask (tops laid.old.len (choice_of schema.now.scope (pattern_at (table_of schema.now) i) number)) }
+    ensures tops { result ≡ mask (tops laid.old.len (choice_of schema.now.scope (pattern_at (table_of schema.now) i) number)) }
     ensures length { laid.new.len ≤ laid.old.len + len schema.now.scope (pattern_at (table_of schema.now) i) }
 {
     match schema.item(i) {
@@ -88,7 +87,7 @@ fn lay_run(schema: &Checked, i: usize, run: Run, around: Option<u8>, laid: &mut 
     requires power { (run.left.power ≡ run.once ^ run.left.times) × ((run.left.number < run.left.power) × (run.left.power ≤ most_candidates)) }
     requires room { (run.left.times ≤ most_times) × (laid.old.len + run.left.times * len schema.now.scope (pattern_at (table_of schema.now) i) ≤ most_events) }
     ensures lays { Lays around (times run.order (choice_of schema.now.scope (pattern_at (table_of schema.now) i)) run.once run.left.times run.left.number) laid.old laid.new }
-    ensures tops { value result ≡ mask (tops laid.old.len (times run.order (choice_of schema.now.scope (pattern_at (table_of schema.now) i)) run.once run.left.times run.left.number)) }
+    ensures tops { result ≡ mask (tops laid.old.len (times run.order (choice_of schema.now.scope (pattern_at (table_of schema.now) i)) run.once run.left.times run.left.number)) }
     ensures length { laid.new.len ≤ laid.old.len + run.left.times * len schema.now.scope (pattern_at (table_of schema.now) i) }
 {
     if run.left.times == 0 {

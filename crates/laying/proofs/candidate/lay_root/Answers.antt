@@ -12,7 +12,7 @@ use Rattle.laying.proofs.candidate.lay_root.Goals as goal
 pub returns : goal.returns
 returns c = record {
   lays = λ xs e. one_more_root xs (node c.args.root.event (choice_of c.args.schema.now.scope (pattern_at (table_of c.args.schema.now) (c.args.root.item - 1)) c.args.number)) c.args.laid.now _ c.lay_pattern.new.laid e
-      (record { len = refl; types = refl; around = refl; precedes = refl; roots = refl; starts = refl; room = search rules })
+      (record { len = refl; events = refl; roots = refl; starts = refl; room = search rules })
       (lays_node c.args.root.event None _ _ c.push.new.self c.lay_pattern.new.laid c.push.ensures.pushed
       (subst (λ k. Lays (Some c.args.laid.now.len) (choice_of c.args.schema.now.scope (pattern_at (table_of c.args.schema.now) (k - 1)) c.args.number) c.push.new.self c.lay_pattern.new.laid) c.from.ensures c.lay_pattern.ensures.lays));
   roots = c.lay_pattern.ensures.lays.roots ∙ c.push.ensures.pushed.roots;
