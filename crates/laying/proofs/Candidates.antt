@@ -10,7 +10,7 @@ use Rattle.grammar.specs.Fits.{Fits, RootsFit}
 use Rattle.grammar.specs.Schema.{Rooted, candidates, events}
 use Rattle.numbering.specs.Choice.{Choice, node}
 use Rattle.numbering.specs.Numbers.{choice_of, choices_of}
-use Rattle.schema.specs.Reading.{pattern_at, schema_of}
+use Rattle.schema.specs.Reading.{schema_of}
 use Rattle.schema.specs.Plans.{no_root}
 use Rattle.schema.specs.Sound.{Planned, Sound, no_rooted}
 use Rattle.schema.specs.Told.{table_of, root_found}
@@ -19,7 +19,8 @@ use Rattle.schema.specs.declared.plan.Plan.{Plan}
 use Rattle.schema.specs.declared.plan.Root.{Root}
 use Rattle.schema.proofs.Carried.{checked_sound, checked_total}
 use Rattle.laying.specs.Beginning.{Beginning, beginning_of}
-use Rattle.laying.specs.Lays.{Layable, shown}
+use Rattle.laying.specs.Layable.{Layable, root_choice, longest_root}
+use Rattle.laying.specs.Lays.{shown, AddsRoot}
 use Rattle.laying.specs.Laying.{first_choices, has_beginning, laid_at}
 use Rattle.laying.specs.declared.laid.Laid.{Laid}
 
@@ -99,25 +100,24 @@ module _ (c : Checked) (n k rest after : ℕ) (l : Laid) (e : Root) (lt : k < le
   pub follows : 0 < e.item
   follows = planned.follows
 
-  pub layable : Layable (table_of c) c.scope (e.item - 1) (rest / (after / e.count))
+  pub layable : Layable c (e.item - 1) (rest / (after / e.count))
   layable = record {
     ends = planned.ends;
     fits = subst (Fits c.scope) (sym planned.is) (fits_at c.scope k (schema_of (table_of c)).roots (checked_sound c).within.roots lt);
     below = omega (arith, digit.digit, counts, ap (count c.scope) planned.is);
   }
 
-  pub room_at : l.len + (len c.scope (pattern_at (table_of c) (e.item - 1)) + 1) ≤ most_events
+  pub room_at : l.len + longest_root c e ≤ most_events
   room_at = omega (arith, g.room, ap (events c.scope) split, ap (len c.scope) planned.is)
 
   pub few : l.roots < most_roots
   few = omega (arith, g.roots, lt, z.within.roots_to)
 
   abbrev x : Choice
-  x = node e.event (choice_of c.scope (pattern_at (table_of c) (e.item - 1)) (rest / (after / e.count)))
+  x = root_choice c e (rest / (after / e.count))
 
   pub begun_more : (m : Laid)
-      → ((xs : List Choice) → shown l ≡ beginning_of xs → shown m ≡ beginning_of (xs ++ (node e.event (choice_of c.scope (pattern_at (table_of c) (e.item - 1)) (rest / (after / e.count))) ∷ [])))
-      → m.roots ≡ l.roots + 1 → m.len ≤ l.len + (len c.scope (pattern_at (table_of c) (e.item - 1)) + 1)
+      → AddsRoot (root_choice c e (rest / (after / e.count))) l m → m.roots ≡ l.roots + 1 → m.len ≤ l.len + longest_root c e
       → Begun c.scope (schema_of (table_of c)).roots n (k + 1) (rest % (after / e.count)) (after / e.count) m
   begun_more m sh ro ln = record {
     total = digit.later;

@@ -11,7 +11,7 @@ use Rattle.grammar.specs.declared.part.Order.TheVariants.{InOrder, AsSet}
 use Rattle.numbering.specs.Choice.{Choice, empty, node, pair, took, Side}
 use Rattle.laying.specs.Pairs.{row}
 use Rattle.laying.specs.Events.{size, types, tops, arounds, in_order, precs}
-use Rattle.laying.specs.Lays.{laid_events, types_in, around_in, rows_in, row_at, Pushed, preceding_at, preceding, ordered, Ordered, Lays, Between}
+use Rattle.laying.specs.Lays.{laid_events, types_in, around_in, rows_in, row_at, Pushed, preceding_at, preceding, ordered, Ordered, Lays, LaysTop, Between}
 use Rattle.laying.specs.declared.laid.Laid.{Laid}
 use Rattle.laying.specs.declared.laid.LaidEvent.{LaidEvent}
 use Rattle.laying.proofs.Rows.{row_precs_pair, tops_low, tops_high}
@@ -212,23 +212,41 @@ lays_pair o p x y A B old mid end new u v ta tb w = record {
         ∙ (ap₂ (λ s t. bit_or s t) (v.rows a ∙ ap (λ s. bit_or s Y) (u.rows a)) (ap₂ (λ s t. cond (in_order o && s) t 0) (ap (λ n. bit n a) ta ∙ bit_mask (tops old.len x) a) tb)
         ∙ (turned R X Y C ∙ ap (bit_or R) (ap (λ n. bit_or (cond (in_order o && among (tops old.len x) a) (mask (tops n y)) 0) (bit_or X (row (precs n y) a))) u.len ∙ sym (row_precs_pair old.len o x y a))))
 
-pub lays_as : (p : Option ℕ) (x y : Choice) (old new : Laid) → x ≡ y → Lays p y old new → Lays p x old new
-lays_as p x y old new e h = subst (λ v. Lays p v old new) (sym e) h
+-- What is laid, with its top events.
 
--- Top events.
+module _ {p : Option ℕ} {old new : Laid} {r : ℕ} where
+  -- the same choice under another name
+  pub laid_as : {m k : ℕ} {x : Choice} (z : Choice) → z ≡ x → m ≤ k → LaysTop p x m old new r → LaysTop p z k old new r
+  laid_as {m} {k} {x} z e l h = record {
+    lays = subst (λ v. Lays p v old new) (sym e) h.lays;
+    tops = h.tops ∙ ap (λ v. mask (tops old.len v)) (sym e);
+    length = omega (arith, h.length);
+  }
 
-pub tops_empty : (n : ℕ) → 0 ≡ mask (tops n empty)
+  pub laid_took : {m : ℕ} {x : Choice} (d : Side) → LaysTop p x m old new r → LaysTop p (took d x) m old new r
+  unfolding tops
+  laid_took d h = record { lays = lays_took d p _ old new h.lays; tops = h.tops; length = h.length }
+
+  pub laid_node : {m q t : ℕ} {x : Choice} {mid : Laid} → Pushed t p old mid → r ≡ 2 ^ old.len → LaysTop (Some old.len) x m mid new q → LaysTop p (node t x) (m + 1) old new r
+  unfolding tops
+  laid_node {t = t} {mid = mid} u e h = record { lays = lays_node t p _ old mid new u h.lays; tops = e ∙ sym (or_zero_r (2 ^ old.len)); length = omega (arith, h.length, u.len) }
+
+  pub laid_pair : {o : Order} {m n A B : ℕ} {x y : Choice} {mid end : Laid} → LaysTop p x m old mid A → LaysTop p y n mid end B → Ordered o A B end new → r ≡ bit_or A B
+      → LaysTop p (pair o x y) (m + n) old new r
+  unfolding tops
+  laid_pair {o} {A = A} {B = B} {x = x} {y = y} {mid = mid} {end = end} u v w e = record {
+    lays = lays_pair o p x y A B old mid end new u.lays v.lays u.tops v.tops w;
+    tops = e ∙ (ap₂ bit_or u.tops v.tops ∙ (ap (λ k. bit_or (mask (tops old.len x)) (mask (tops k y))) u.lays.len ∙ sym (mask_append (tops old.len x) (tops (old.len + size x) y))));
+    length = omega (arith, u.length, v.length, w.len);
+  }
+
+pub laid_empty : {p : Option ℕ} {l : Laid} {r : ℕ} → r ≡ 0 → LaysTop p empty 0 l l r
 unfolding tops
-tops_empty n = refl
+laid_empty {p} {l} e = record { lays = lays_empty p l; tops = e; length = omega arith }
 
-pub tops_node : (n t : ℕ) (x : Choice) → 2 ^ n ≡ mask (tops n (node t x))
-unfolding tops
-tops_node n t x = sym (or_zero_r (2 ^ n))
+-- where the top events of the first of two parts lie
+pub part_places : {p q : Option ℕ} {x y : Choice} {m n A B : ℕ} {old mid end : Laid} → LaysTop p x m old mid A → LaysTop q y n mid end B → (old.len ≤ mid.len) × (mid.len ≤ end.len)
+part_places u v = (omega (arith, u.lays.len), omega (arith, v.lays.len))
 
-pub tops_took : (d : Side) (n : ℕ) (x : Choice) → mask (tops n x) ≡ mask (tops n (took d x))
-unfolding tops
-tops_took d n x = refl
-
-pub tops_pair : (o : Order) (n m : ℕ) (x y : Choice) → m ≡ n + size x → bit_or (mask (tops n x)) (mask (tops m y)) ≡ mask (tops n (pair o x y))
-unfolding tops
-tops_pair o n m x y e = ap (λ k. bit_or (mask (tops n x)) (mask (tops k y))) e ∙ sym (mask_append (tops n x) (tops (n + size x) y))
+pub part_between : {p : Option ℕ} {x : Choice} {m A : ℕ} {old new : Laid} → LaysTop p x m old new A → Between old.len new.len A
+part_between {x = x} {A = A} {old = old} {new = new} u = tops_between old.len new.len x A u.tops u.lays.len

@@ -94,7 +94,7 @@ pub record Marked (old mid : Laid) : Type 0 where
   pub starts : mid.starts ≡ set old.starts old.roots old.len
   pub room : old.roots < length old.starts
 
-module _ (xs : List Choice) (x : Choice) (old mid new : Laid) (e : shown old ≡ beginning_of xs) (k : Marked old mid) (y : Lays None x mid new) where
+module _ (x : Choice) (old mid new : Laid) (k : Marked old mid) (y : Lays None x mid new) (xs : List Choice) (e : shown old ≡ beginning_of xs) where
   same_events : laid_events mid ≡ laid_events old
   same_events = ap₂ take k.len k.events
 

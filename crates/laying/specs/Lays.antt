@@ -1,24 +1,14 @@
 -- What laying a choice adds to what is laid. Assumes nothing.
 use Rattle.std.specs.Prelude.{◌≡◌, ℕ, suc, ◌+◌, ◌<◌, ◌≤◌, true, cond, List, [], ◌∷◌, ◌++◌, map, take, Option, bit_or, slice_index}
-use Rattle.rows.specs.Bits.{bit}
-use Rattle.grammar.specs.Pattern.{count}
-use Rattle.grammar.specs.Fits.{Fits}
+use Rattle.rows.specs.Bits.{bit, mask}
 use Rattle.grammar.specs.declared.part.Order.{Order}
 use Rattle.grammar.specs.declared.part.Order.TheVariants.{InOrder, AsSet}
 use Rattle.numbering.specs.Choice.{Choice}
-use Rattle.schema.specs.Reading.{pattern_at}
-use Rattle.schema.specs.Progress.{Ends}
 use Rattle.laying.specs.Pairs.{row}
-use Rattle.laying.specs.Events.{size, types, arounds, precs}
-use Rattle.laying.specs.Beginning.{Beginning}
+use Rattle.laying.specs.Events.{size, types, tops, arounds, precs}
+use Rattle.laying.specs.Beginning.{Beginning, beginning_of}
 use Rattle.laying.specs.declared.laid.Laid.{Laid}
 use Rattle.laying.specs.declared.laid.LaidEvent.{LaidEvent}
-
--- the pattern that item i of the table ends can be laid with number n
-pub record Layable (b : List ℕ) (s i n : ℕ) : Type 0 where
-  pub ends : Ends b i
-  pub fits : Fits s (pattern_at b i)
-  pub below : n < count s (pattern_at b i)
 
 -- the events that are laid
 abbrev pub laid_events : Laid → List LaidEvent
@@ -82,6 +72,16 @@ pub record Lays (p : Option ℕ) (x : Choice) (old new : Laid) : Type 0 where
   pub rows : (a : ℕ) → row_at new a ≡ bit_or (row_at old a) (row (precs old.len x) a)
   pub roots : new.roots ≡ old.roots
   pub starts : new.starts ≡ old.starts
+
+-- so it is, with no more than m events, and the row r holds its top events
+pub record LaysTop (p : Option ℕ) (x : Choice) (m : ℕ) (old new : Laid) (r : ℕ) : Type 0 where
+  pub lays : Lays p x old new
+  pub tops : r ≡ mask (tops old.len x)
+  pub length : new.len ≤ old.len + m
+
+-- what is laid is one root more, with this choice
+abbrev pub AddsRoot : Choice → Laid → Laid → Type 0
+AddsRoot x old new = (xs : List Choice) → shown old ≡ beginning_of xs → shown new ≡ beginning_of (xs ++ (x ∷ []))
 
 -- all bits of x lie from n on and below m
 abbrev pub Between : ℕ → ℕ → ℕ → Type 0

@@ -1,11 +1,9 @@
-use Rattle.std.proofs.Common.{◌≡◌, ◌+◌, ◌-◌, ◌/◌, List, [], ◌∷◌, ◌++◌, sym, subst, inl, inr, arith}
-use Rattle.numbering.specs.Choice.{Choice, node}
-use Rattle.numbering.specs.Numbers.{choice_of}
+use Rattle.std.proofs.Common.{◌+◌, ◌-◌, ◌/◌, sym, subst, inl, inr, arith}
 use Rattle.numbering.proofs.Numbered.{patterns_numbered, roots_numbered}
-use Rattle.schema.specs.Reading.{pattern_at, schema_of}
+use Rattle.schema.specs.Reading.{schema_of}
 use Rattle.schema.specs.Told.{table_of}
-use Rattle.laying.specs.Beginning.{beginning_of}
-use Rattle.laying.specs.Lays.{Layable, shown}
+use Rattle.laying.specs.Layable.{Layable, root_choice}
+use Rattle.laying.specs.Lays.{AddsRoot}
 use Rattle.laying.specs.Promises.{LayingLaws}
 use Rattle.laying.proofs.Candidates.{Begun, digit, follows, layable, room_at, few, begun_none, begun_more, begun_all, laid_not}
 use Rattle.laying.proofs.Enclosing.{nearest, around_is_in, outermost}
@@ -39,7 +37,7 @@ nonzero_div-after c = (digit c.args.schema.now c.args.number c.loop-k.k c.loop-k
 pub lay_root-requires : goal.lay_root-requires
 lay_root-requires c = record {
   follows = follows c.args.schema.now c.args.number c.loop-k.k c.loop-k.rest c.loop-k.after c.loop-k.laid c.root-root.result (omega (arith, c.loop-k-test.true, c.if-roots.false, c.roots.ensures)) c.root-root.ensures c.loop-k.invariant;
-  layable = subst (λ n. Layable (table_of c.args.schema.now) c.args.schema.now.scope (c.root-root.result.item - 1) n) (sym c.split_pair-digit.ensures.earlier) (layable c.args.schema.now c.args.number c.loop-k.k c.loop-k.rest c.loop-k.after c.loop-k.laid c.root-root.result (omega (arith, c.loop-k-test.true, c.if-roots.false, c.roots.ensures)) c.root-root.ensures c.loop-k.invariant);
+  layable = subst (Layable c.args.schema.now (c.root-root.result.item - 1)) (sym c.split_pair-digit.ensures.earlier) (layable c.args.schema.now c.args.number c.loop-k.k c.loop-k.rest c.loop-k.after c.loop-k.laid c.root-root.result (omega (arith, c.loop-k-test.true, c.if-roots.false, c.roots.ensures)) c.root-root.ensures c.loop-k.invariant);
   few = few c.args.schema.now c.args.number c.loop-k.k c.loop-k.rest c.loop-k.after c.loop-k.laid c.root-root.result (omega (arith, c.loop-k-test.true, c.if-roots.false, c.roots.ensures)) c.root-root.ensures c.loop-k.invariant;
   room = room_at c.args.schema.now c.args.number c.loop-k.k c.loop-k.rest c.loop-k.after c.loop-k.laid c.root-root.result (omega (arith, c.loop-k-test.true, c.if-roots.false, c.roots.ensures)) c.root-root.ensures c.loop-k.invariant;
 }
@@ -48,7 +46,7 @@ pub loop-k-preserved : goal.loop-k-preserved
 loop-k-preserved c =
     subst (λ m. Begun c.args.schema.now.scope (schema_of (table_of c.args.schema.now)).roots c.args.number (c.loop-k.k + 1) m (c.loop-k.after / c.root-root.result.count) c.lay_root.new.laid) (sym c.split_pair-digit.ensures.later)
     (begun_more c.args.schema.now c.args.number c.loop-k.k c.loop-k.rest c.loop-k.after c.loop-k.laid c.root-root.result (omega (arith, c.loop-k-test.true, c.if-roots.false, c.roots.ensures)) c.root-root.ensures c.loop-k.invariant c.lay_root.new.laid
-    (subst (λ n. (xs : List Choice) → shown c.loop-k.laid ≡ beginning_of xs → shown c.lay_root.new.laid ≡ beginning_of (xs ++ (node c.root-root.result.event (choice_of c.args.schema.now.scope (pattern_at (table_of c.args.schema.now) (c.root-root.result.item - 1)) n) ∷ []))) c.split_pair-digit.ensures.earlier c.lay_root.ensures.lays)
+    (subst (λ n. AddsRoot (root_choice c.args.schema.now c.root-root.result n) c.loop-k.laid c.lay_root.new.laid) c.split_pair-digit.ensures.earlier c.lay_root.ensures.lays)
     c.lay_root.ensures.roots c.lay_root.ensures.length)
 
 pub returns : goal.returns
