@@ -54,11 +54,13 @@ sized b s i q m en o e =
 
 -- Items that take no pattern.
 
-pub nothing_at : (table : Checked) (i n : ℕ) → Ends (table_of table) i → Nothing ≡ item_found (table_of table) i → choice_at table i n ≡ empty
-nothing_at table i n en e = ap (λ x. choice_of table.scope (top (stacked x (state (table_of table) i).patterns)) n) (sym (found_item (table_of table) i Nothing en e))
+pub nothing_at : {table : Checked} {i n : ℕ} → Layable table i n → Nothing ≡ item_found (table_of table) i → choice_at table i n ≡ empty
+nothing_at {table} {i} {n} y e = ap (λ x. choice_of table.scope (top (stacked x (state (table_of table) i).patterns)) n) (sym (found_item (table_of table) i Nothing y.ends e))
 
-pub atom_at : (table : Checked) (i t : ℕ) → Ends (table_of table) i → Atom t ≡ item_found (table_of table) i → pattern_of table i ≡ atom t
-atom_at table i t en e = ap (λ x. top (stacked x (state (table_of table) i).patterns)) (sym (found_item (table_of table) i (Atom t) en e))
+pub atom_at : {table : Checked} {i n t : ℕ} → Layable table i n → Atom t ≡ item_found (table_of table) i → (choice_at table i n ≡ node t empty) × (longest table i ≡ 1)
+atom_at {table} {i} {n} {t} y e =
+    let is : pattern_of table i ≡ atom t = ap (λ x. top (stacked x (state (table_of table) i).patterns)) (sym (found_item (table_of table) i (Atom t) y.ends e)) in
+    (ap (λ q. choice_of table.scope q n) is, ap (len table.scope) is)
 
 -- An event with an inside.
 
@@ -68,8 +70,8 @@ pub record Inside (table : Checked) (i n t : ℕ) : Type 0 where
   pub long : longest table i ≡ longest table (i - 1) + 1
   pub is : choice_at table i n ≡ node t (choice_at table (i - 1) n)
 
-pub inside_of : (table : Checked) (i n t : ℕ) → Layable table i n → Event t ≡ item_found (table_of table) i → Inside table i n t
-inside_of table i n t y e =
+pub inside_of : {table : Checked} {i n t : ℕ} → Layable table i n → Event t ≡ item_found (table_of table) i → Inside table i n t
+inside_of {table} {i} {n} {t} y e =
     let b = table_of table in
     let s = table.scope in
     let u = unary b i (Event t) (event t) refl (λ q w. refl) y.ends (found_item b i (Event t) y.ends e) in
@@ -96,9 +98,9 @@ pub record Parts (table : Checked) (i number k n m : ℕ) (o : Order) : Type 0 w
   pub long : longest table i ≡ longest table (i - 1 - k) + longest table (i - 1)
   pub is : choice_at table i number ≡ pair o (choice_at table (i - 1 - k) n) (choice_at table (i - 1) m)
 
-pub parts_of : (table : Checked) (i number k n m : ℕ) (o : Order) (e : Measure) → Layable table i number → Both o ≡ item_found (table_of table) i → e ≡ measure_found (table_of table) table.scope (i - 1) → k ≡ e.items
-    → n ≡ number / e.count → m ≡ number % e.count → Parts table i number k n m o
-parts_of table i number k n m o v y e me ke ne re =
+pub parts_of : {table : Checked} {i number k n m : ℕ} {o : Order} {v : Measure} → Layable table i number → Both o ≡ item_found (table_of table) i → v ≡ measure_found (table_of table) table.scope (i - 1) → k ≡ v.items
+    → n ≡ number / v.count → m ≡ number % v.count → Parts table i number k n m o
+parts_of {table} {i} {number} {k} {n} {m} {o} {v} y e me ke ne re =
     let b = table_of table in
     let s = table.scope in
     let u = binary b i (Both o) (both o) refl (λ q. refl) (λ q p w. refl) y.ends (found_item b i (Both o) y.ends e) in
@@ -143,8 +145,8 @@ pub record Sides (table : Checked) (i k : ℕ) : Type 0 where
   pub second : Ends (table_of table) (i - 1)
   pub fits : Fits table.scope (either (pattern_of table (i - 1 - k)) (pattern_of table (i - 1)))
 
-pub sides_of : (table : Checked) (i n k : ℕ) (m : Measure) → Layable table i n → Either ≡ item_found (table_of table) i → m ≡ measure_found (table_of table) table.scope (i - 1) → k ≡ m.items → Sides table i k
-sides_of table i n k m y e me ke =
+pub sides_of : {table : Checked} {i n k : ℕ} {m : Measure} → Layable table i n → Either ≡ item_found (table_of table) i → m ≡ measure_found (table_of table) table.scope (i - 1) → k ≡ m.items → Sides table i k
+sides_of {table} {i} {n} {k} {m} y e me ke =
     let b = table_of table in
     let s = table.scope in
     let u = binary b i Either either refl (λ q. refl) (λ q p w. refl) y.ends (found_item b i Either y.ends e) in
@@ -163,8 +165,8 @@ pub record SideTaken (table : Checked) (i n j m : ℕ) (d : Side) : Type 0 where
   pub long : longest table j ≤ longest table i
   pub is : choice_at table i n ≡ took d (choice_at table j m)
 
-pub earlier_taken : (table : Checked) (i n k m : ℕ) (q : Measure) → Layable table i n → Sides table i k → q ≡ measure_found (table_of table) table.scope (i - 1 - k) → Earlier m ≡ side_at q.count n → SideTaken table i n (i - 1 - k) m earlier
-earlier_taken table i n k m q y d qe e =
+pub earlier_taken : {table : Checked} {i n k m : ℕ} {q : Measure} → Layable table i n → Sides table i k → q ≡ measure_found (table_of table) table.scope (i - 1 - k) → Earlier m ≡ side_at q.count n → SideTaken table i n (i - 1 - k) m earlier
+earlier_taken {table} {i} {n} {k} {m} {q} y d qe e =
     let b = table_of table in
     let s = table.scope in
     let c : q.count ≡ count s (pattern_at b (i - 1 - k)) = counted b s (i - 1 - k) q d.first d.fits.0 qe in
@@ -177,8 +179,8 @@ earlier_taken table i n k m q y d qe e =
           ∙ ap (λ x. took earlier (choice_of s (pattern_at b (i - 1 - k)) x)) (sym h.1));
     }
 
-pub later_taken : (table : Checked) (i n k m : ℕ) (q : Measure) → Layable table i n → Sides table i k → q ≡ measure_found (table_of table) table.scope (i - 1 - k) → Later m ≡ side_at q.count n → SideTaken table i n (i - 1) m later
-later_taken table i n k m q y d qe e =
+pub later_taken : {table : Checked} {i n k m : ℕ} {q : Measure} → Layable table i n → Sides table i k → q ≡ measure_found (table_of table) table.scope (i - 1 - k) → Later m ≡ side_at q.count n → SideTaken table i n (i - 1) m later
+later_taken {table} {i} {n} {k} {m} {q} y d qe e =
     let b = table_of table in
     let s = table.scope in
     let c : q.count ≡ count s (pattern_at b (i - 1 - k)) = counted b s (i - 1 - k) q d.first d.fits.0 qe in
@@ -241,9 +243,9 @@ times_few s x y h r = go (eqb y scope_mark) refl r.1
     go false e (inl f) = f
     go false e (inr f) = let t = eq-eqb y scope_mark f in let z : ◌≡◌ {A = ℕ} 0 1 = cc in absurd (omega arith)
 
-pub many_of : (table : Checked) (i n x y z : ℕ) (o : Order) (m : Measure) (r : Repeated) → table.scope ≤ most_scope → Layable table i n → Repeat o x y ≡ item_found (table_of table) i
+pub many_of : {table : Checked} {i n x y z : ℕ} {o : Order} {m : Measure} {r : Repeated} → table.scope ≤ most_scope → Layable table i n → Repeat o x y ≡ item_found (table_of table) i
     → m ≡ measure_found (table_of table) table.scope (i - 1) → z ≡ most table.scope y → r ≡ times_at m.count x z n → Many table i n (record { order = o; once = m.count; left = r })
-many_of table i n x y z o m r sc l e me ze re =
+many_of {table} {i} {n} {x} {y} {z} {o} {m} {r} sc l e me ze re =
     let b = table_of table in
     let s = table.scope in
     let u = unary b i (Repeat o x y) (repeat o x y) refl (λ q w. refl) l.ends (found_item b i (Repeat o x y) l.ends e) in
@@ -343,13 +345,13 @@ pub record RunParts (table : Checked) (i d p n m : ℕ) (run : Run) : Type 0 whe
   pub long : longest_run table i run ≡ longest table i + longest_run table i (rest_of run p m)
   pub is : run_choice table i run ≡ pair run.order (choice_at table i n) (run_choice table i (rest_of run p m))
 
-pub run_some : (d : ℕ) (table : Checked) (i : ℕ) (run : Run) → d ≡ run.once → LayableRun table i run → (run.left.times ≡ 0 → ⊥) → First d run.left.times run.left.power run.left.number
-run_some d table i run e y s = first_of d run.left.times run.left.power run.left.number (y.power ∙ ap (λ x. x ^ run.left.times) (sym e)) y.below (not_none run.left.times s)
+pub run_some : {table : Checked} {i d : ℕ} {run : Run} → d ≡ run.once → LayableRun table i run → (run.left.times ≡ 0 → ⊥) → First d run.left.times run.left.power run.left.number
+run_some {d = d} {run = run} e y s = first_of d run.left.times run.left.power run.left.number (y.power ∙ ap (λ x. x ^ run.left.times) (sym e)) y.below (not_none run.left.times s)
 
-pub run_parts : (table : Checked) (i d p n m : ℕ) (run : Run) → d ≡ run.once → LayableRun table i run → (run.left.times ≡ 0 → ⊥) → p ≡ run.left.power / d → n ≡ run.left.number / p → m ≡ run.left.number % p
+pub run_parts : {table : Checked} {i d p n m : ℕ} {run : Run} → d ≡ run.once → LayableRun table i run → (run.left.times ≡ 0 → ⊥) → p ≡ run.left.power / d → n ≡ run.left.number / p → m ≡ run.left.number % p
     → RunParts table i d p n m run
-run_parts table i d p n m run e y s pe ne me =
-    let u = run_some d table i run e y s in
+run_parts {table} {i} {d} {p} {n} {m} {run} e y s pe ne me =
+    let u = run_some e y s in
     let k = not_none run.left.times s in
     let w : p ≡ run.once ^ (run.left.times - 1) = pe ∙ (u.rest ∙ ap (λ x. x ^ (run.left.times - 1)) e) in
     record {
