@@ -1,5 +1,5 @@
 -- The roots of a candidate, laid one after another.
-use Rattle.std.proofs.Common.{◌≡◌, ℕ, zero, suc, ◌+◌, ◌-◌, ◌*◌, ◌/◌, ◌%◌, ◌<◌, ◌≤◌, false, cond, ◌&&◌, ltb, leb, ◌⊎◌, List, [], ◌∷◌, ◌++◌, length, get_or, take, drop, Some, None, Option, sym, refl, ap, ◌∙◌, subst, ap₂, inl, inr, append_assoc, mul-zero, zero-mul, div-le_self, arith, length-append}
+use Rattle.std.proofs.Common.{◌≡◌, ℕ, zero, suc, ◌+◌, ◌-◌, ◌*◌, ◌/◌, ◌%◌, ◌<◌, ◌≤◌, false, cond, ◌&&◌, ltb, leb, ◌⊎◌, List, [], ◌∷◌, ◌++◌, length, get_or, take, drop, Some, None, Option, sym, refl, ap, ◌∙◌, subst, ap₂, inl, inr, append_assoc, mul_comm, div-le_self, arith, length-append}
 use native.Mathlib.Nat.{mul-div_cancel_left}
 use Rattle.std.proofs.lemmas.Nat.{div_below, mod_below}
 use Rattle.std.proofs.lemmas.List.{take_at, drop_more}
@@ -23,6 +23,7 @@ use Rattle.laying.specs.Layable.{Layable, root_choice, longest_root}
 use Rattle.laying.specs.Lays.{shown, AddsRoot}
 use Rattle.laying.specs.Laying.{first_choices, has_beginning, laid_at}
 use Rattle.laying.specs.declared.laid.Laid.{Laid}
+use Rattle.laying.proofs.Parts.{some_right}
 
 -- the roots of a checked table
 abbrev pub roots_of : Checked → List Rooted
@@ -39,14 +40,6 @@ pub record Begun (table : Checked) (n k rest after : ℕ) (l : Laid) : Type 0 wh
   pub laid : shown l ≡ beginning_of done
   pub whole : done ++ choices_of table.scope (drop k (roots_of table)) rest ≡ choices_of table.scope (roots_of table) n
 
-some_right : (n x y : ℕ) → n < x * y → 0 < y
-some_right n x zero h = let e : x * zero ≡ 0 = mul-zero x in absurd (omega arith)
-some_right n x (suc y) h = omega arith
-
-some_left : (n x y : ℕ) → n < x * y → 0 < x
-some_left n zero y h = let e : zero * y ≡ 0 = zero-mul y in absurd (omega arith)
-some_left n (suc x) y h = omega arith
-
 -- the digit of root k, of c choices, before roots that have t candidates together
 pub record Digit (c t rest after : ℕ) : Type 0 where
   pub some : 0 < c
@@ -58,7 +51,7 @@ pub record Digit (c t rest after : ℕ) : Type 0 where
 digit_of : (c t rest after : ℕ) → after ≡ c * t → rest < after → Digit c t rest after
 digit_of c t rest after e h =
     let g : rest < c * t = omega (arith, e, h) in
-    let p = some_left rest c t g in
+    let p = some_right rest t c (omega (arith, mul_comm c t)) in
     let q = some_right rest c t g in
     let l : after / c ≡ t = ap (λ x. x / c) e ∙ mul-div_cancel_left t p in
     record {

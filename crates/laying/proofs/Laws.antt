@@ -138,7 +138,7 @@ ordered_rows InOrder x y es h a =
 ordered_rows AsSet x y es h a = sym (or_zero_r (get_or (rows_in es) a 0))
 
 -- the top events lie among those of the choice
-pub tops_between : (n m : ℕ) (x : Choice) (A : ℕ) → A ≡ mask (tops n x) → m ≡ n + size x → Between n m A
+tops_between : (n m : ℕ) (x : Choice) (A : ℕ) → A ≡ mask (tops n x) → m ≡ n + size x → Between n m A
 tops_between n m x A e l a h =
     let k : among (tops n x) a ≡ true = sym (bit_mask (tops n x) a) ∙ (ap (λ k. bit k a) (sym e) ∙ h) in
     (tops_low n x a k, omega (arith, tops_high n x a k))
@@ -149,7 +149,7 @@ tops_between n m x A e l a h =
 after : {A : Type 0} (u v w a b x : List A) → u ≡ w ++ a → v ≡ u ++ b → x ≡ a ++ b → v ≡ w ++ x
 after u v w a b x p q r = q ∙ (ap (λ k. k ++ b) p ∙ (append_assoc w a b ∙ ap (λ k. w ++ k) (sym r)))
 
-pub lays_empty : (p : Option ℕ) (l : Laid) → Lays p empty l l
+lays_empty : (p : Option ℕ) (l : Laid) → Lays p empty l l
 unfolding size types arounds precs row
 lays_empty p l = record {
   len = sym (add-zero l.len);
@@ -160,7 +160,7 @@ lays_empty p l = record {
   starts = refl;
 }
 
-pub lays_node : (t : ℕ) (p : Option ℕ) (x : Choice) (old mid new : Laid) → Pushed t p old mid → Lays (Some old.len) x mid new → Lays p (node t x) old new
+lays_node : (t : ℕ) (p : Option ℕ) (x : Choice) (old mid new : Laid) → Pushed t p old mid → Lays (Some old.len) x mid new → Lays p (node t x) old new
 unfolding size types arounds precs
 lays_node t p x old mid new u v = record {
   len = omega (arith, u.len, v.len);
@@ -174,7 +174,7 @@ lays_node t p x old mid new u v = record {
     next : mid.len ≡ suc old.len
     next = u.len ∙ add-one old.len
 
-pub lays_took : (d : Side) (p : Option ℕ) (x : Choice) (old new : Laid) → Lays p x old new → Lays p (took d x) old new
+lays_took : (d : Side) (p : Option ℕ) (x : Choice) (old new : Laid) → Lays p x old new → Lays p (took d x) old new
 unfolding size types arounds precs
 lays_took d p x old new u = record { len = u.len; types = u.types; around = u.around; rows = u.rows; roots = u.roots; starts = u.starts }
 
@@ -182,7 +182,7 @@ lays_took d p x old new u = record { len = u.len; types = u.types; around = u.ar
 turned : (r x y c : ℕ) → bit_or (bit_or (bit_or r x) y) c ≡ bit_or r (bit_or c (bit_or x y))
 turned r x y c = or_assoc (bit_or r x) y c ∙ (or_assoc r x (bit_or y c) ∙ ap (bit_or r) (sym (or_assoc x y c) ∙ or_comm (bit_or x y) c))
 
-pub lays_pair : (o : Order) (p : Option ℕ) (x y : Choice) (A B : ℕ) (old mid end new : Laid) → Lays p x old mid → Lays p y mid end
+lays_pair : (o : Order) (p : Option ℕ) (x y : Choice) (A B : ℕ) (old mid end new : Laid) → Lays p x old mid → Lays p y mid end
     → A ≡ mask (tops old.len x) → B ≡ mask (tops mid.len y) → Ordered o A B end new → Lays p (pair o x y) old new
 unfolding size types arounds
 lays_pair o p x y A B old mid end new u v ta tb w = record {

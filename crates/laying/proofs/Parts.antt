@@ -27,7 +27,7 @@ use Rattle.laying.specs.declared.pattern.Run.{Run}
 
 -- Items and measures that are there.
 
-pub found_item : (b : List ℕ) (i : ℕ) (it : Item) → Ends b i → it ≡ item_found b i → it ≡ item_at b i
+found_item : (b : List ℕ) (i : ℕ) (it : Item) → Ends b i → it ≡ item_found b i → it ≡ item_at b i
 found_item b i it en e = e ∙ ap (λ x. cond x (item_at b i) Unknown) (lt-ltb i (item_count b) en.within)
 
 small : (s : ℕ) (p : Pattern) → Fits s p → Small s p
@@ -42,7 +42,7 @@ found_measure : (b : List ℕ) (s i : ℕ) (m : Measure) → Ends b i → m ≡ 
 found_measure b s i m en e =
     e ∙ (ap (λ x. cond x (measure_of s (made_at b i)) no_measure) (lt-ltb i (item_count b) en.within) ∙ ap (measure_of s) (made_ends b i en))
 
-pub counted : (b : List ℕ) (s i : ℕ) (m : Measure) → Ends b i → Fits s (pattern_at b i) → m ≡ measure_found b s i → m.count ≡ count s (pattern_at b i)
+counted : (b : List ℕ) (s i : ℕ) (m : Measure) → Ends b i → Fits s (pattern_at b i) → m ≡ measure_found b s i → m.count ≡ count s (pattern_at b i)
 counted b s i m en f e =
     let g = ap (λ (x : Measure). x.count) (found_measure b s i m en e) in omega (arith, g, (small s (pattern_at b i) f).0)
 
@@ -86,7 +86,7 @@ inside_of {table} {i} {n} {t} y e =
 
 -- A sequence or a set.
 
-some_right : (n x y : ℕ) → n < x * y → 0 < y
+pub some_right : (n x y : ℕ) → n < x * y → 0 < y
 some_right n x zero h = let e : x * zero ≡ 0 = mul-zero x in absurd (omega arith)
 some_right n x (suc y) h = omega arith
 
@@ -124,14 +124,14 @@ parts_of {table} {i} {number} {k} {n} {m} {o} {v} y e me ke ne re =
 
 -- An alternative.
 
-pub side_earlier : (c n m : ℕ) → Earlier m ≡ side_at c n → (n < c) × (m ≡ n)
+side_earlier : (c n m : ℕ) → Earlier m ≡ side_at c n → (n < c) × (m ≡ n)
 side_earlier c n m e = go (ltb n c) refl e
   where
     go : (x : Bool) → ltb n c ≡ x → Earlier m ≡ cond x (Earlier n) (Later (n - c)) → (n < c) × (m ≡ n)
     go true h e = (ltb-true n c h, cc)
     go false h e = let z : ◌≡◌ {A = ℕ} 0 1 = cc in absurd (omega arith)
 
-pub side_later : (c n m : ℕ) → Later m ≡ side_at c n → (c ≤ n) × (m ≡ n - c)
+side_later : (c n m : ℕ) → Later m ≡ side_at c n → (c ≤ n) × (m ≡ n - c)
 side_later c n m e = go (ltb n c) refl e
   where
     go : (x : Bool) → ltb n c ≡ x → Later m ≡ cond x (Earlier n) (Later (n - c)) → (c ≤ n) × (m ≡ n - c)
@@ -285,7 +285,6 @@ many_of {table} {i} {n} {x} {y} {z} {o} {m} {r} sc l e me ze re =
 pub record First (c k w n : ℕ) : Type 0 where
   pub some : 0 < c
   pub rest : w / c ≡ c ^ (k - 1)
-  pub divides : 0 < w / c
   pub digit : n / (w / c) < c
   pub left : n % (w / c) < w / c
   pub less : w / c ≤ w
@@ -304,7 +303,6 @@ first_of (suc c) (suc k) w n e h p =
     record {
       some = omega arith;
       rest = r ∙ ap (λ x. suc c ^ x) (sym z);
-      divides = omega (arith, r, pos);
       digit = subst (λ x. n / x < suc c) (sym r) (div_below n (suc c ^ k) (suc c) pos (omega (arith, mul_comm (suc c) (suc c ^ k))));
       left = mod_below n (w / suc c) (omega (arith, r, pos));
       less = div-le_self w (suc c);

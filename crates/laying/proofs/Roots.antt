@@ -1,39 +1,20 @@
 -- One root more, and all roots of a candidate one after another.
-use Rattle.std.proofs.Common.{◌≡◌, ℕ, suc, ◌+◌, ◌<◌, ◌≤◌, Bool, true, false, cond, ◌&&◌, ◌⊎◌, List, [], ◌∷◌, ◌++◌, map, length, get_or, take, set, None, sym, refl, ap, ◌∙◌, ap₂, inl, inr, append-nil, add-zero, zero-add, arith}
+use Rattle.std.proofs.Common.{◌≡◌, ℕ, ◌+◌, ◌<◌, ◌≤◌, ◌⊎◌, List, [], ◌∷◌, ◌++◌, map, length, get_or, take, set, None, sym, refl, ap, ◌∙◌, ap₂, inl, inr, append-nil, add-zero, zero-add, arith}
 use lib.Bits.{bit_or}
 use Rattle.std.proofs.lemmas.List.FromFn.{length-map-range_with_len, get_or-map-range_with_len, fill_by_all}
 use Rattle.std.proofs.lemmas.List.{take_more_set, length-take-le, length-map, get_or_past}
-use Rattle.std.proofs.lemmas.Bool.{cases_lt, cases_Bool}
+use Rattle.std.proofs.lemmas.Bool.{cases_lt}
 use Rattle.std.specs.List.{range_with_len}
-use Rattle.rows.specs.Bits.{among, mask}
-use Rattle.numbering.specs.Choice.{Choice, empty, node, pair, took}
+use Rattle.numbering.specs.Choice.{Choice}
 use Rattle.laying.specs.Pairs.{row}
-use Rattle.laying.specs.Events.{size, types, tops, arounds, in_order, precs}
+use Rattle.laying.specs.Events.{size, types, arounds, precs}
 use Rattle.laying.specs.Beginning.{whole, starts, Beginning, beginning_of}
 use Rattle.laying.specs.Lays.{laid_events, types_in, around_in, rows_in, row_at, shown, Lays}
 use Rattle.laying.specs.declared.laid.Laid.{Laid}
-use Rattle.laying.proofs.Rows.{row_precs_pair, tops_high}
+use Rattle.laying.proofs.Rows.{row_outside}
 use Rattle.laying.proofs.Stay.{size-append, types-append, arounds-append, row_precs-append, starts-append}
 
 -- One root more.
-
-and_no : (x y : Bool) → y ≡ false → (x && y) ≡ false
-and_no true y e = e
-and_no false y e = refl
-
--- a place past the events of a choice has an empty row
-row_above : (n : ℕ) (x : Choice) (a : ℕ) → n + size x ≤ a → row (precs n x) a ≡ 0
-unfolding precs row size
-row_above n empty a l = refl
-row_above n (node t x) a l = row_above (suc n) x a (omega arith)
-row_above n (pair o x y) a l =
-    row_precs_pair n o x y a
-    ∙ (ap₂ (λ b z. bit_or (cond (in_order o && b) (mask (tops (n + size x) y)) 0) z) none (ap₂ bit_or (row_above n x a (omega arith)) (row_above (n + size x) y a (omega arith)))
-    ∙ ap (λ b. bit_or (cond b (mask (tops (n + size x) y)) 0) 0) (and_no (in_order o) false refl))
-  where
-    none : among (tops n x) a ≡ false
-    none = elim (cases_Bool (among (tops n x) a)) [ inl h ↦ absurd (omega (arith, tops_high n x a h)) | inr h ↦ h ]
-row_above n (took d x) a l = row_above n x a l
 
 alone_size : (x : Choice) → size (whole (x ∷ [])) ≡ size x
 unfolding size
@@ -80,7 +61,7 @@ module _ (xs : List Choice) (l : Laid) (e : shown l ≡ beginning_of xs) where
 
       go : (a < size (whole xs)) ⊎ (size (whole xs) ≤ a) → get_or here a 0 ≡ row (precs 0 (whole xs)) a
       go (inl h) = get_or-map-range_with_len (row (precs 0 (whole xs))) 0 (size (whole xs)) a a 0 h (zero-add a)
-      go (inr h) = get_or_past here a 0 (omega (arith, length-map-range_with_len (row (precs 0 (whole xs))) 0 (size (whole xs)))) ∙ sym (row_above 0 (whole xs) a (omega arith))
+      go (inr h) = get_or_past here a 0 (omega (arith, length-map-range_with_len (row (precs 0 (whole xs))) 0 (size (whole xs)))) ∙ sym (row_outside 0 (whole xs) a (inr (omega arith)))
 
   shown_len : l.len ≡ size (whole xs)
   shown_len =
