@@ -31,7 +31,7 @@ fn events_at(schema: &Checked, number: u32) -> u64
     ensures few { result ≤ most_events }
 {
     match lay(schema, number, schema.roots()) {
-        Some(laid) => laid.len as u64,
+        Some(laid) => laid.events().len() as u64,
         None => 0,
     }
 }

@@ -8,6 +8,7 @@ use Rattle.grammar.specs.declared.part.Order.{Order}
 use Rattle.numbering.specs.Choice.{Choice, empty, node, pair, took, Side}
 use Rattle.laying.specs.Pairs.{Pairs, Paired, Among, each_with}
 use Rattle.laying.specs.Events.{size, tops, ins, arounds}
+use Rattle.laying.proofs.Stay.{length-arounds}
 use Rattle.laying.specs.Promises.{Encloses, around_all, deeper, in_first, in_second, on_side, InTheNearest, AroundIsIn, TopsOutermost}
 
 -- ---- laws of ⊎
@@ -276,13 +277,6 @@ inside_node p n t x a b = (parted, joined)
       | inr k ↦ (let e = k.1 in inl (tops_are_in.1 (k.0, cc)))
     ]))
     joined (inr (e, q)) = inr (inl e, q)
-
-pub length-arounds : (p : Option ℕ) (n : ℕ) (x : Choice) → length (arounds p n x) ≡ size x
-unfolding arounds size
-length-arounds p n empty = refl
-length-arounds p n (node t x) = ap suc (length-arounds (Some n) (suc n) x)
-length-arounds p n (pair o x y) = omega (arith, length-append (arounds p n x) (arounds p (n + size x) y), length-arounds p n x, length-arounds p (n + size x) y)
-length-arounds p n (took d x) = length-arounds p n x
 
 inside_found : (p : Option ℕ) (n : ℕ) (x : Choice) (a b : ℕ) → Inside p n x a b ↔ Found n (arounds p n x) a b
 unfolding ins tops arounds size

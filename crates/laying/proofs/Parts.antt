@@ -2,7 +2,7 @@
 use Rattle.std.proofs.Common.{◌≡◌, ℕ, zero, suc, ◌+◌, ◌-◌, ◌*◌, ◌/◌, ◌%◌, ◌^◌, ◌<◌, ◌≤◌, Bool, true, false, cond, eqb, ltb, ◌⊎◌, List, sym, refl, ap, ◌∙◌, subst, ap₂, inl, inr, mul-le-mul_right, suc-mul, mul_comm, pow-suc, mul-zero, div-le_self, mul-div_cancel, arith}
 use Rattle.std.proofs.lemmas.Nat.{div_below, mod_below}
 use Rattle.std.proofs.lemmas.Bool.{lt-ltb, le-ltb, ltb-true, ltb-false, eq-eqb, cases_lt}
-use Rattle.questions.specs.Limits.{most_type, most_times, most_scope, most_candidates, scope_mark}
+use Rattle.questions.specs.Limits.{most_times, most_scope, most_candidates, scope_mark}
 use Rattle.grammar.specs.Pattern.{Pattern, nothing, atom, event, both, either, repeat, most, powers, span, count, len, size}
 use Rattle.grammar.specs.Measures.{measure_of}
 use Rattle.grammar.specs.Fits.{Small, Fits, Repeats}
@@ -10,7 +10,7 @@ use Rattle.grammar.specs.declared.measure.Measure.{Measure}
 use Rattle.grammar.specs.declared.part.Order.{Order}
 use Rattle.items.specs.declared.item.Item.{Item}
 use Rattle.items.specs.declared.item.Item.TheVariants.{Nothing, Atom, Event, Both, Either, Repeat, Unknown}
-use Rattle.numbering.specs.Choice.{Choice, empty, node, pair, took, earlier, later}
+use Rattle.numbering.specs.Choice.{Choice, empty, node, pair, took, Side, earlier, later}
 use Rattle.numbering.specs.Numbers.{times, occurrences, choice_of}
 use Rattle.numbering.specs.Splits.{side_at, power_capped, times_at}
 use Rattle.numbering.specs.declared.split.Taken.TheVariants.{Earlier, Later}
@@ -19,13 +19,15 @@ use Rattle.schema.specs.Bytes.{item_count, item_at}
 use Rattle.schema.specs.Reading.{state, top, stacked, pattern_at}
 use Rattle.schema.specs.Questions.{made_at}
 use Rattle.schema.specs.Progress.{Ends, no_measure}
-use Rattle.schema.specs.Told.{item_found, measure_found}
+use Rattle.schema.specs.Told.{table_of, item_found, measure_found}
+use Rattle.schema.specs.declared.checked.Checked.{Checked}
 use Rattle.schema.proofs.Waiting.{One, unary, binary, made_ends}
-use Rattle.laying.specs.Lays.{Layable}
+use Rattle.laying.specs.Layable.{pattern_of, longest, choice_at, Layable, run_choice, longest_run, LayableRun}
+use Rattle.laying.specs.declared.pattern.Run.{Run}
 
 -- Items and measures that are there.
 
-pub found_item : (b : List ℕ) (i : ℕ) (it : Item) → Ends b i → it ≡ item_found b i → it ≡ item_at b i
+found_item : (b : List ℕ) (i : ℕ) (it : Item) → Ends b i → it ≡ item_found b i → it ≡ item_at b i
 found_item b i it en e = e ∙ ap (λ x. cond x (item_at b i) Unknown) (lt-ltb i (item_count b) en.within)
 
 small : (s : ℕ) (p : Pattern) → Fits s p → Small s p
@@ -40,7 +42,7 @@ found_measure : (b : List ℕ) (s i : ℕ) (m : Measure) → Ends b i → m ≡ 
 found_measure b s i m en e =
     e ∙ (ap (λ x. cond x (measure_of s (made_at b i)) no_measure) (lt-ltb i (item_count b) en.within) ∙ ap (measure_of s) (made_ends b i en))
 
-pub counted : (b : List ℕ) (s i : ℕ) (m : Measure) → Ends b i → Fits s (pattern_at b i) → m ≡ measure_found b s i → m.count ≡ count s (pattern_at b i)
+counted : (b : List ℕ) (s i : ℕ) (m : Measure) → Ends b i → Fits s (pattern_at b i) → m ≡ measure_found b s i → m.count ≡ count s (pattern_at b i)
 counted b s i m en f e =
     let g = ap (λ (x : Measure). x.count) (found_measure b s i m en e) in omega (arith, g, (small s (pattern_at b i) f).0)
 
@@ -52,29 +54,31 @@ sized b s i q m en o e =
 
 -- Items that take no pattern.
 
-pub nothing_at : (b : List ℕ) (s i n : ℕ) → Ends b i → Nothing ≡ item_found b i → choice_of s (pattern_at b i) n ≡ empty
-nothing_at b s i n en e = ap (λ x. choice_of s (top (stacked x (state b i).patterns)) n) (sym (found_item b i Nothing en e))
+pub nothing_at : {table : Checked} {i n : ℕ} → Layable table i n → Nothing ≡ item_found (table_of table) i → choice_at table i n ≡ empty
+nothing_at {table} {i} {n} y e = ap (λ x. choice_of table.scope (top (stacked x (state (table_of table) i).patterns)) n) (sym (found_item (table_of table) i Nothing y.ends e))
 
-pub atom_at : (b : List ℕ) (i t : ℕ) → Ends b i → Atom t ≡ item_found b i → pattern_at b i ≡ atom t
-atom_at b i t en e = ap (λ x. top (stacked x (state b i).patterns)) (sym (found_item b i (Atom t) en e))
+pub atom_at : {table : Checked} {i n t : ℕ} → Layable table i n → Atom t ≡ item_found (table_of table) i → (choice_at table i n ≡ node t empty) × (longest table i ≡ 1)
+atom_at {table} {i} {n} {t} y e =
+    let is : pattern_of table i ≡ atom t = ap (λ x. top (stacked x (state (table_of table) i).patterns)) (sym (found_item (table_of table) i (Atom t) y.ends e)) in
+    (ap (λ q. choice_of table.scope q n) is, ap (len table.scope) is)
 
 -- An event with an inside.
 
-pub record Inside (b : List ℕ) (s i n t : ℕ) : Type 0 where
+pub record Inside (table : Checked) (i n t : ℕ) : Type 0 where
   pub pos : 0 < i
-  pub type : t ≤ most_type
-  pub layable : Layable b s (i - 1) n
-  pub long : len s (pattern_at b i) ≡ len s (pattern_at b (i - 1)) + 1
-  pub is : choice_of s (pattern_at b i) n ≡ node t (choice_of s (pattern_at b (i - 1)) n)
+  pub layable : Layable table (i - 1) n
+  pub long : longest table i ≡ longest table (i - 1) + 1
+  pub is : choice_at table i n ≡ node t (choice_at table (i - 1) n)
 
-pub inside_of : (b : List ℕ) (s i n t : ℕ) → Layable b s i n → Event t ≡ item_found b i → Inside b s i n t
-inside_of b s i n t y e =
+pub inside_of : {table : Checked} {i n t : ℕ} → Layable table i n → Event t ≡ item_found (table_of table) i → Inside table i n t
+inside_of {table} {i} {n} {t} y e =
+    let b = table_of table in
+    let s = table.scope in
     let u = unary b i (Event t) (event t) refl (λ q w. refl) y.ends (found_item b i (Event t) y.ends e) in
     let is : pattern_at b i ≡ event t (pattern_at b (i - 1)) = u.2 ∙ ap (event t) (sym u.1.is) in
     let f = subst (Fits s) is y.fits in
     record {
       pos = u.1.pos;
-      type = f.1;
       layable = record { ends = u.1.ends; fits = f.0; below = subst (λ p. n < count s p) is y.below };
       long = ap (len s) is;
       is = ap (λ p. choice_of s p n) is;
@@ -82,61 +86,69 @@ inside_of b s i n t y e =
 
 -- A sequence or a set.
 
-some_right : (n x y : ℕ) → n < x * y → 0 < y
+pub some_right : (n x y : ℕ) → n < x * y → 0 < y
 some_right n x zero h = let e : x * zero ≡ 0 = mul-zero x in absurd (omega arith)
 some_right n x (suc y) h = omega arith
 
-pub record Parts (b : List ℕ) (s i n k c : ℕ) (o : Order) : Type 0 where
+-- k items are those of the later part; the number is split into n and m
+pub record Parts (table : Checked) (i number k n m : ℕ) (o : Order) : Type 0 where
   pub room : k + 1 ≤ i
-  pub first : Layable b s (i - 1 - k) (n / c)
-  pub second : Layable b s (i - 1) (n % c)
-  pub long : len s (pattern_at b i) ≡ len s (pattern_at b (i - 1 - k)) + len s (pattern_at b (i - 1))
-  pub is : choice_of s (pattern_at b i) n ≡ pair o (choice_of s (pattern_at b (i - 1 - k)) (n / c)) (choice_of s (pattern_at b (i - 1)) (n % c))
+  pub first : Layable table (i - 1 - k) n
+  pub second : Layable table (i - 1) m
+  pub long : longest table i ≡ longest table (i - 1 - k) + longest table (i - 1)
+  pub is : choice_at table i number ≡ pair o (choice_at table (i - 1 - k) n) (choice_at table (i - 1) m)
 
-pub parts_of : (b : List ℕ) (s i n k : ℕ) (o : Order) (m : Measure) → Layable b s i n → Both o ≡ item_found b i → m ≡ measure_found b s (i - 1) → k ≡ m.items → Parts b s i n k m.count o
-parts_of b s i n k o m y e me ke =
+pub parts_of : {table : Checked} {i number k n m : ℕ} {o : Order} {v : Measure} → Layable table i number → Both o ≡ item_found (table_of table) i → v ≡ measure_found (table_of table) table.scope (i - 1) → k ≡ v.items
+    → n ≡ number / v.count → m ≡ number % v.count → Parts table i number k n m o
+parts_of {table} {i} {number} {k} {n} {m} {o} {v} y e me ke ne re =
+    let b = table_of table in
+    let s = table.scope in
     let u = binary b i (Both o) (both o) refl (λ q. refl) (λ q p w. refl) y.ends (found_item b i (Both o) y.ends e) in
     let l = u.2.later in
-    let j : k ≡ size u.1 = ke ∙ sized b s i u.1 m y.ends u.2.later me in
+    let j : k ≡ size u.1 = ke ∙ sized b s i u.1 v y.ends u.2.later me in
     let e1 : pattern_at b (i - 1 - k) ≡ u.0 = ap (λ x. pattern_at b (i - 1 - x)) j ∙ u.2.is in
     let is : pattern_at b i ≡ both o (pattern_at b (i - 1 - k)) (pattern_at b (i - 1)) = u.3 ∙ ap₂ (both o) (sym e1) (sym l.is) in
     let f = subst (Fits s) is y.fits in
-    let c : m.count ≡ count s (pattern_at b (i - 1)) = counted b s (i - 1) m l.ends f.1 me in
-    let h : n < count s (pattern_at b (i - 1 - k)) * m.count = subst (λ x. n < count s (pattern_at b (i - 1 - k)) * x) (sym c) (subst (λ p. n < count s p) is y.below) in
-    let z = some_right n (count s (pattern_at b (i - 1 - k))) m.count h in
+    let c : v.count ≡ count s (pattern_at b (i - 1)) = counted b s (i - 1) v l.ends f.1 me in
+    let h : number < count s (pattern_at b (i - 1 - k)) * v.count = subst (λ x. number < count s (pattern_at b (i - 1 - k)) * x) (sym c) (subst (λ p. number < count s p) is y.below) in
+    let z = some_right number (count s (pattern_at b (i - 1 - k))) v.count h in
     record {
       room = omega (arith, j, u.2.room);
-      first = record { ends = subst (Ends b) (ap (λ x. i - 1 - x) (sym j)) u.2.ends; fits = f.0; below = div_below n m.count (count s (pattern_at b (i - 1 - k))) z h };
-      second = record { ends = l.ends; fits = f.1; below = subst (λ x. n % m.count < x) c (mod_below n m.count z) };
+      first = record { ends = subst (Ends b) (ap (λ x. i - 1 - x) (sym j)) u.2.ends; fits = f.0; below = omega (arith, ne, div_below number v.count (count s (pattern_at b (i - 1 - k))) z h) };
+      second = record { ends = l.ends; fits = f.1; below = omega (arith, re, c, mod_below number v.count z) };
       long = ap (len s) is;
-      is = ap (λ p. choice_of s p n) is ∙ ap (λ x. pair o (choice_of s (pattern_at b (i - 1 - k)) (n / x)) (choice_of s (pattern_at b (i - 1)) (n % x))) (sym c);
+      is = ap (λ p. choice_of s p number) is
+          ∙ (ap (λ x. pair o (choice_of s (pattern_at b (i - 1 - k)) (number / x)) (choice_of s (pattern_at b (i - 1)) (number % x))) (sym c)
+          ∙ ap₂ (λ x w. pair o (choice_at table (i - 1 - k) x) (choice_at table (i - 1) w)) (sym ne) (sym re));
     }
 
 -- An alternative.
 
-pub side_earlier : (c n m : ℕ) → Earlier m ≡ side_at c n → (n < c) × (m ≡ n)
+side_earlier : (c n m : ℕ) → Earlier m ≡ side_at c n → (n < c) × (m ≡ n)
 side_earlier c n m e = go (ltb n c) refl e
   where
     go : (x : Bool) → ltb n c ≡ x → Earlier m ≡ cond x (Earlier n) (Later (n - c)) → (n < c) × (m ≡ n)
     go true h e = (ltb-true n c h, cc)
     go false h e = let z : ◌≡◌ {A = ℕ} 0 1 = cc in absurd (omega arith)
 
-pub side_later : (c n m : ℕ) → Later m ≡ side_at c n → (c ≤ n) × (m ≡ n - c)
+side_later : (c n m : ℕ) → Later m ≡ side_at c n → (c ≤ n) × (m ≡ n - c)
 side_later c n m e = go (ltb n c) refl e
   where
     go : (x : Bool) → ltb n c ≡ x → Later m ≡ cond x (Earlier n) (Later (n - c)) → (c ≤ n) × (m ≡ n - c)
     go true h e = let z : ◌≡◌ {A = ℕ} 0 1 = cc in absurd (omega arith)
     go false h e = (ltb-false n c h, cc)
 
-pub record Sides (b : List ℕ) (s i k : ℕ) : Type 0 where
+pub record Sides (table : Checked) (i k : ℕ) : Type 0 where
   pub room : k + 1 ≤ i
-  pub is : pattern_at b i ≡ either (pattern_at b (i - 1 - k)) (pattern_at b (i - 1))
-  pub first : Ends b (i - 1 - k)
-  pub second : Ends b (i - 1)
-  pub fits : Fits s (either (pattern_at b (i - 1 - k)) (pattern_at b (i - 1)))
+  pub is : pattern_of table i ≡ either (pattern_of table (i - 1 - k)) (pattern_of table (i - 1))
+  pub first : Ends (table_of table) (i - 1 - k)
+  pub second : Ends (table_of table) (i - 1)
+  pub fits : Fits table.scope (either (pattern_of table (i - 1 - k)) (pattern_of table (i - 1)))
 
-pub sides_of : (b : List ℕ) (s i n k : ℕ) (m : Measure) → Layable b s i n → Either ≡ item_found b i → m ≡ measure_found b s (i - 1) → k ≡ m.items → Sides b s i k
-sides_of b s i n k m y e me ke =
+pub sides_of : {table : Checked} {i n k : ℕ} {m : Measure} → Layable table i n → Either ≡ item_found (table_of table) i → m ≡ measure_found (table_of table) table.scope (i - 1) → k ≡ m.items → Sides table i k
+sides_of {table} {i} {n} {k} {m} y e me ke =
+    let b = table_of table in
+    let s = table.scope in
     let u = binary b i Either either refl (λ q. refl) (λ q p w. refl) y.ends (found_item b i Either y.ends e) in
     let l = u.2.later in
     let j : k ≡ size u.1 = ke ∙ sized b s i u.1 m y.ends u.2.later me in
@@ -148,13 +160,15 @@ abbrev chosen : Bool → Choice → Choice → Choice
 chosen o x y = elim o [ true ↦ x | false ↦ y ]
 
 -- one side that is taken, at item j with number m
-pub record SideTaken (b : List ℕ) (s i n j m : ℕ) (x : Choice → Choice) : Type 0 where
-  pub layable : Layable b s j m
-  pub long : len s (pattern_at b j) ≤ len s (pattern_at b i)
-  pub is : choice_of s (pattern_at b i) n ≡ x (choice_of s (pattern_at b j) m)
+pub record SideTaken (table : Checked) (i n j m : ℕ) (d : Side) : Type 0 where
+  pub layable : Layable table j m
+  pub long : longest table j ≤ longest table i
+  pub is : choice_at table i n ≡ took d (choice_at table j m)
 
-pub earlier_taken : (b : List ℕ) (s i n k m : ℕ) (q : Measure) → Layable b s i n → Sides b s i k → q ≡ measure_found b s (i - 1 - k) → Earlier m ≡ side_at q.count n → SideTaken b s i n (i - 1 - k) m (took earlier)
-earlier_taken b s i n k m q y d qe e =
+pub earlier_taken : {table : Checked} {i n k m : ℕ} {q : Measure} → Layable table i n → Sides table i k → q ≡ measure_found (table_of table) table.scope (i - 1 - k) → Earlier m ≡ side_at q.count n → SideTaken table i n (i - 1 - k) m earlier
+earlier_taken {table} {i} {n} {k} {m} {q} y d qe e =
+    let b = table_of table in
+    let s = table.scope in
     let c : q.count ≡ count s (pattern_at b (i - 1 - k)) = counted b s (i - 1 - k) q d.first d.fits.0 qe in
     let h = side_earlier q.count n m e in
     record {
@@ -165,8 +179,10 @@ earlier_taken b s i n k m q y d qe e =
           ∙ ap (λ x. took earlier (choice_of s (pattern_at b (i - 1 - k)) x)) (sym h.1));
     }
 
-pub later_taken : (b : List ℕ) (s i n k m : ℕ) (q : Measure) → Layable b s i n → Sides b s i k → q ≡ measure_found b s (i - 1 - k) → Later m ≡ side_at q.count n → SideTaken b s i n (i - 1) m (took later)
-later_taken b s i n k m q y d qe e =
+pub later_taken : {table : Checked} {i n k m : ℕ} {q : Measure} → Layable table i n → Sides table i k → q ≡ measure_found (table_of table) table.scope (i - 1 - k) → Later m ≡ side_at q.count n → SideTaken table i n (i - 1) m later
+later_taken {table} {i} {n} {k} {m} {q} y d qe e =
+    let b = table_of table in
+    let s = table.scope in
     let c : q.count ≡ count s (pattern_at b (i - 1 - k)) = counted b s (i - 1 - k) q d.first d.fits.0 qe in
     let h = side_later q.count n m e in
     let below : n < count s (pattern_at b (i - 1 - k)) + count s (pattern_at b (i - 1)) = subst (λ p. n < count s p) d.is y.below in
@@ -212,17 +228,11 @@ occurring c (suc m) k n h = go (λ l. occurring c m (suc k) (n - c ^ k) (omega a
           few = subst (λ (w : ℕ × ℕ). c ^ w.0 ≤ powers c (suc (suc m)) k) (sym e) (omega (arith, r.few));
         }
 
-pub record Many (b : List ℕ) (s i n c : ℕ) (o : Order) (r : Repeated) : Type 0 where
+pub record Many (table : Checked) (i n : ℕ) (run : Run) : Type 0 where
   pub pos : 0 < i
-  pub ends : Ends b (i - 1)
-  pub fits : Fits s (pattern_at b (i - 1))
-  pub once : c ≡ count s (pattern_at b (i - 1))
-  pub power : r.power ≡ c ^ r.times
-  pub below : r.number < r.power
-  pub small : r.power ≤ most_candidates
-  pub few : r.times ≤ most_times
-  pub long : r.times * len s (pattern_at b (i - 1)) ≤ len s (pattern_at b i)
-  pub is : choice_of s (pattern_at b i) n ≡ times o (choice_of s (pattern_at b (i - 1))) c r.times r.number
+  pub layable : LayableRun table (i - 1) run
+  pub long : longest_run table (i - 1) run ≤ longest table i
+  pub is : choice_at table i n ≡ run_choice table (i - 1) run
 
 -- the most of a repetition within the limits
 times_few : (s x y : ℕ) → s ≤ most_scope → Repeats s x y → most s y ≤ most_times
@@ -233,9 +243,11 @@ times_few s x y h r = go (eqb y scope_mark) refl r.1
     go false e (inl f) = f
     go false e (inr f) = let t = eq-eqb y scope_mark f in let z : ◌≡◌ {A = ℕ} 0 1 = cc in absurd (omega arith)
 
-pub many_of : (b : List ℕ) (s i n x y z : ℕ) (o : Order) (m : Measure) (r : Repeated) → s ≤ most_scope → Layable b s i n → Repeat o x y ≡ item_found b i → m ≡ measure_found b s (i - 1) → z ≡ most s y
-    → r ≡ times_at m.count x z n → Many b s i n m.count o r
-many_of b s i n x y z o m r sc l e me ze re =
+pub many_of : {table : Checked} {i n x y z : ℕ} {o : Order} {m : Measure} {r : Repeated} → table.scope ≤ most_scope → Layable table i n → Repeat o x y ≡ item_found (table_of table) i
+    → m ≡ measure_found (table_of table) table.scope (i - 1) → z ≡ most table.scope y → r ≡ times_at m.count x z n → Many table i n (record { order = o; once = m.count; left = r })
+many_of {table} {i} {n} {x} {y} {z} {o} {m} {r} sc l e me ze re =
+    let b = table_of table in
+    let s = table.scope in
     let u = unary b i (Repeat o x y) (repeat o x y) refl (λ q w. refl) l.ends (found_item b i (Repeat o x y) l.ends e) in
     let p = pattern_at b (i - 1) in
     let is : pattern_at b i ≡ repeat o x y (pattern_at b (i - 1)) = u.2 ∙ ap (repeat o x y) (sym u.1.is) in
@@ -253,13 +265,15 @@ many_of b s i n x y z o m r sc l e me ze re =
     let tm : r.times ≤ most s y = omega (arith, rt, w.most, f.1.2) in
     record {
       pos = u.1.pos;
-      ends = u.1.ends;
-      fits = f.0;
-      once = c;
-      power = rq ∙ ap (λ k. m.count ^ k) (sym rt);
-      below = omega (arith, rn, rq, w.below);
-      small = omega (arith, rq, w.few, all);
-      few = omega (arith, tm, times_few s x y sc f.1);
+      layable = record {
+        ends = u.1.ends;
+        fits = f.0;
+        once = c;
+        power = rq ∙ ap (λ k. m.count ^ k) (sym rt);
+        below = omega (arith, rn, rq, w.below);
+        small = omega (arith, rq, w.few, all);
+        few = omega (arith, tm, times_few s x y sc f.1);
+      };
       long = omega (arith, mul-le-mul_right {m = r.times} {n = most s y} (len s (pattern_at b (i - 1))) tm, ap (len s) is);
       is = ap (λ q. choice_of s q n) is
           ∙ (ap (λ k. times o (choice_of s (pattern_at b (i - 1))) k (occurrences k (most s y - x) x n).0 (occurrences k (most s y - x) x n).1) (sym c)
@@ -271,7 +285,6 @@ many_of b s i n x y z o m r sc l e me ze re =
 pub record First (c k w n : ℕ) : Type 0 where
   pub some : 0 < c
   pub rest : w / c ≡ c ^ (k - 1)
-  pub divides : 0 < w / c
   pub digit : n / (w / c) < c
   pub left : n % (w / c) < w / c
   pub less : w / c ≤ w
@@ -279,7 +292,7 @@ pub record First (c k w n : ℕ) : Type 0 where
 zero_pow : (k : ℕ) → zero ^ suc k ≡ zero
 zero_pow k = pow-suc zero k ∙ mul-zero (zero ^ k)
 
-pub first_of : (c k w n : ℕ) → w ≡ c ^ k → n < w → 0 < k → First c k w n
+first_of : (c k w n : ℕ) → w ≡ c ^ k → n < w → 0 < k → First c k w n
 first_of c zero w n e h p = absurd (omega arith)
 first_of zero (suc k) w n e h p = absurd (omega (arith, zero_pow k))
 first_of (suc c) (suc k) w n e h p =
@@ -290,26 +303,69 @@ first_of (suc c) (suc k) w n e h p =
     record {
       some = omega arith;
       rest = r ∙ ap (λ x. suc c ^ x) (sym z);
-      divides = omega (arith, r, pos);
       digit = subst (λ x. n / x < suc c) (sym r) (div_below n (suc c ^ k) (suc c) pos (omega (arith, mul_comm (suc c) (suc c ^ k))));
       left = mod_below n (w / suc c) (omega (arith, r, pos));
       less = div-le_self w (suc c);
     }
 
-pub times_more : (o : Order) (u : ℕ → Choice) (c k n w : ℕ) → 0 < k → w ≡ c ^ (k - 1) → times o u c k n ≡ pair o (u (n / w)) (times o u c (k - 1) (n % w))
+times_more : (o : Order) (u : ℕ → Choice) (c k n w : ℕ) → 0 < k → w ≡ c ^ (k - 1) → times o u c k n ≡ pair o (u (n / w)) (times o u c (k - 1) (n % w))
 times_more o u c zero n w h e = absurd (omega arith)
 times_more o u c (suc k) n w h e =
     let z : k ≡ suc k - 1 = omega arith in
     let q : c ^ k ≡ w = ap (λ x. c ^ x) z ∙ sym e in
     ap₂ (λ x y. pair o (u (n / x)) (times o u c y (n % x))) q z
 
-pub times_none : (o : Order) (u : ℕ → Choice) (c k n : ℕ) → k ≡ 0 → times o u c k n ≡ empty
+times_none : (o : Order) (u : ℕ → Choice) (c k n : ℕ) → k ≡ 0 → times o u c k n ≡ empty
 times_none o u c k n e = ap (λ x. times o u c x n) e
 
-pub times_long : (k m : ℕ) → 0 < k → k * m ≡ m + (k - 1) * m
+times_long : (k m : ℕ) → 0 < k → k * m ≡ m + (k - 1) * m
 times_long zero m h = absurd (omega arith)
 times_long (suc k) m h = let z : suc k - 1 ≡ k = omega arith in subst (λ x. suc k * m ≡ m + x * m) (sym z) (omega (arith, suc-mul k m))
 
-pub not_none : (k : ℕ) → (k ≡ 0 → ⊥) → 0 < k
+not_none : (k : ℕ) → (k ≡ 0 → ⊥) → 0 < k
 not_none zero h = absurd (h refl)
 not_none (suc k) h = omega arith
+
+-- a run without occurrences
+pub run_none : (table : Checked) (i : ℕ) (run : Run) → run.left.times ≡ 0 → run_choice table i run ≡ empty
+run_none table i run e = times_none run.order (choice_at table i) run.once run.left.times run.left.number e
+
+-- the occurrences after the first, which have p choices together, at number m
+abbrev pub rest_of : Run → ℕ → ℕ → Run
+rest_of run p m = record { order = run.order; once = run.once; left = record { times = run.left.times - 1; number = m; power = p } }
+
+-- a run with occurrences: the first at number n, and the others; d is the count of one, as the code converts it
+pub record RunParts (table : Checked) (i d p n m : ℕ) (run : Run) : Type 0 where
+  pub some : 0 < d
+  pub less : run.left.power / d ≤ run.left.power
+  pub first : Layable table i n
+  pub others : LayableRun table i (rest_of run p m)
+  pub long : longest_run table i run ≡ longest table i + longest_run table i (rest_of run p m)
+  pub is : run_choice table i run ≡ pair run.order (choice_at table i n) (run_choice table i (rest_of run p m))
+
+pub run_some : {table : Checked} {i d : ℕ} {run : Run} → d ≡ run.once → LayableRun table i run → (run.left.times ≡ 0 → ⊥) → First d run.left.times run.left.power run.left.number
+run_some {d = d} {run = run} e y s = first_of d run.left.times run.left.power run.left.number (y.power ∙ ap (λ x. x ^ run.left.times) (sym e)) y.below (not_none run.left.times s)
+
+pub run_parts : {table : Checked} {i d p n m : ℕ} {run : Run} → d ≡ run.once → LayableRun table i run → (run.left.times ≡ 0 → ⊥) → p ≡ run.left.power / d → n ≡ run.left.number / p → m ≡ run.left.number % p
+    → RunParts table i d p n m run
+run_parts {table} {i} {d} {p} {n} {m} {run} e y s pe ne me =
+    let u = run_some e y s in
+    let k = not_none run.left.times s in
+    let w : p ≡ run.once ^ (run.left.times - 1) = pe ∙ (u.rest ∙ ap (λ x. x ^ (run.left.times - 1)) e) in
+    record {
+      some = u.some;
+      less = u.less;
+      first = record { ends = y.ends; fits = y.fits; below = omega (arith, ne ∙ ap (λ x. run.left.number / x) pe, u.digit, e, y.once) };
+      others = record {
+        ends = y.ends;
+        fits = y.fits;
+        once = y.once;
+        power = w;
+        below = omega (arith, me ∙ ap (λ x. run.left.number % x) pe, pe, u.left);
+        small = omega (arith, pe, u.less, y.small);
+        few = omega (arith, y.few);
+      };
+      long = times_long run.left.times (longest table i) k;
+      is = times_more run.order (choice_at table i) run.once run.left.times run.left.number p k w
+          ∙ ap₂ (λ x z. pair run.order (choice_at table i x) (times run.order (choice_at table i) run.once (run.left.times - 1) z)) (sym ne) (sym me);
+    }

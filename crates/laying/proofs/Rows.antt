@@ -1,7 +1,7 @@
 -- Rows of what is laid: of parts, of all pairs of two lists; and where the top events lie.
-use Rattle.std.proofs.Common.{◌≡◌, ℕ, ◌+◌, ◌^◌, ◌<◌, ◌≤◌, Bool, true, false, cond, ◌&&◌, ◌||◌, eqb, ◌↔◌, List, [], ◌∷◌, ◌++◌, sym, refl, ap, ◌∙◌, ap₂, inl, inr, arith}
+use Rattle.std.proofs.Common.{◌≡◌, ℕ, suc, ◌⊎◌, ◌+◌, ◌^◌, ◌<◌, ◌≤◌, Bool, true, false, cond, ◌&&◌, ◌||◌, eqb, ◌↔◌, List, [], ◌∷◌, ◌++◌, sym, refl, ap, ◌∙◌, ap₂, inl, inr, arith}
 use lib.Bits.{bit_or, or_zero_r, or_self}
-use Rattle.std.proofs.lemmas.Bool.{both_ways, eqb-true, eq-eqb, or_cases, or_left, or_right}
+use Rattle.std.proofs.lemmas.Bool.{cases_Bool, and_right, cond-false, both_ways, eqb-true, eq-eqb, or_cases, or_left, or_right}
 use Rattle.rows.specs.Bits.{bit, among, mask}
 use Rattle.rows.proofs.Bits.{bit-bit_or, bit_zero, bit_one, or_assoc, among-append}
 use Rattle.grammar.specs.declared.part.Order.{Order}
@@ -11,21 +11,21 @@ use Rattle.laying.specs.Pairs.{Pairs, Paired, with_each, all_pairs, row}
 use Rattle.laying.specs.Events.{size, tops, in_order, crossing, precs}
 use Rattle.laying.specs.Promises.{RowsSay}
 
-pub row-append : (ps qs : Pairs) (a : ℕ) → row (ps ++ qs) a ≡ bit_or (row ps a) (row qs a)
+row-append : (ps qs : Pairs) (a : ℕ) → row (ps ++ qs) a ≡ bit_or (row ps a) (row qs a)
 unfolding row
 row-append [] qs a = refl
 row-append (p ∷ ps) qs a =
     let here : ℕ = cond (eqb p.0 a) (2 ^ p.1) 0 in
     ap (bit_or here) (row-append ps qs a) ∙ sym (or_assoc here (row ps a) (row qs a))
 
-pub row_with_each : (x : ℕ) (ys : List ℕ) (a : ℕ) → row (with_each x ys) a ≡ cond (eqb x a) (mask ys) 0
+row_with_each : (x : ℕ) (ys : List ℕ) (a : ℕ) → row (with_each x ys) a ≡ cond (eqb x a) (mask ys) 0
 unfolding row with_each
 row_with_each x [] a = elim (eqb x a) as (λ t. ◌≡◌ {A = ℕ} 0 (cond t 0 0)) [ true ↦ refl | false ↦ refl ]
 row_with_each x (y ∷ ys) a =
     ap (bit_or (cond (eqb x a) (2 ^ y) 0)) (row_with_each x ys a)
     ∙ elim (eqb x a) as (λ t. bit_or (cond t (2 ^ y) 0) (cond t (mask ys) 0) ≡ cond t (bit_or (2 ^ y) (mask ys)) 0) [ true ↦ refl | false ↦ refl ]
 
-pub row_all_pairs : (xs ys : List ℕ) (a : ℕ) → row (all_pairs xs ys) a ≡ cond (among xs a) (mask ys) 0
+row_all_pairs : (xs ys : List ℕ) (a : ℕ) → row (all_pairs xs ys) a ≡ cond (among xs a) (mask ys) 0
 unfolding row all_pairs
 row_all_pairs [] ys a = refl
 row_all_pairs (x ∷ xs) ys a =
@@ -38,7 +38,7 @@ row_all_pairs (x ∷ xs) ys a =
     either true false = or_zero_r (mask ys)
     either false t = refl
 
-pub row_crossing : (o : Order) (xs ys : List ℕ) (a : ℕ) → row (crossing o xs ys) a ≡ cond (in_order o && among xs a) (mask ys) 0
+row_crossing : (o : Order) (xs ys : List ℕ) (a : ℕ) → row (crossing o xs ys) a ≡ cond (in_order o && among xs a) (mask ys) 0
 unfolding row
 row_crossing InOrder xs ys a = row_all_pairs xs ys a
 row_crossing AsSet xs ys a = refl
@@ -71,6 +71,26 @@ tops_high n (pair o x y) a h = elim (or_cases (among (tops n x) a) (among (tops 
   | inr e ↦ omega (arith, tops_high (n + size x) y a e)
 ]
 tops_high n (took d x) a h = tops_high n x a h
+
+-- a place outside of the choice has no top event, and an empty row
+no_top : (n : ℕ) (x : Choice) (a : ℕ) → (a < n) ⊎ (n + size x ≤ a) → among (tops n x) a ≡ false
+no_top n x a l = elim (cases_Bool (among (tops n x) a)) [
+  | inl h ↦ elim l [ inl k ↦ absurd (omega (arith, tops_low n x a h)) | inr k ↦ absurd (omega (arith, tops_high n x a h)) ]
+  | inr h ↦ h
+]
+
+pub row_outside : (n : ℕ) (x : Choice) (a : ℕ) → (a < n) ⊎ (n + size x ≤ a) → row (precs n x) a ≡ 0
+unfolding precs row size
+row_outside n empty a l = refl
+row_outside n (node t x) a l = row_outside (suc n) x a (elim l [ inl h ↦ inl (omega arith) | inr h ↦ inr (omega arith) ])
+row_outside n (pair o x y) a l =
+    row_precs_pair n o x y a
+    ∙ ap₂ bit_or (cond-false (in_order o && among (tops n x) a) (mask (tops (n + size x) y)) 0 (and_right (in_order o) (among (tops n x) a) (no_top n x a first)))
+    (ap₂ bit_or (row_outside n x a first) (row_outside (n + size x) y a (elim l [ inl h ↦ inl (omega arith) | inr h ↦ inr (omega arith) ])))
+  where
+    first : (a < n) ⊎ (n + size x ≤ a)
+    first = elim l [ inl h ↦ inl h | inr h ↦ inr (omega arith) ]
+row_outside n (took d x) a l = row_outside n x a l
 
 -- the one bit of a pair
 pair_bit : (x y a b : ℕ) → bit (cond (eqb x a) (2 ^ y) 0) b ≡ true ↔ ((x ≡ a) × (y ≡ b))

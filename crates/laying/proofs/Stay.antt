@@ -1,19 +1,17 @@
 -- Roots laid one after another: what two lists of roots lay, and that the later ones change nothing of what the earlier ones laid.
-use Rattle.std.proofs.Common.{◌≡◌, ℕ, suc, ◌+◌, ◌<◌, false, ◌&&◌, List, [], ◌∷◌, ◌++◌, map, length, take, Some, None, Option, sym, refl, ap, ◌∙◌, ap₂, inl, inr, append_assoc, add-zero, add_assoc, zero-add, arith, length-append}
+use Rattle.std.proofs.Common.{◌≡◌, ℕ, suc, ◌+◌, ◌<◌, List, [], ◌∷◌, ◌++◌, map, length, take, Some, None, Option, sym, refl, ap, ◌∙◌, ap₂, inl, append_assoc, add-zero, add_assoc, zero-add, arith, length-append}
 use lib.Bits.{bit_or, or_zero_r}
 use Rattle.std.specs.List.{range_with_len}
 use Rattle.std.proofs.lemmas.List.{take_at}
 use Rattle.std.proofs.lemmas.List.FromFn.{take-map-range_with_len, length-map-range_with_len, get_or-map-range_with_len, fill_by_all}
-use Rattle.std.proofs.lemmas.Bool.{cases_Bool, and_right, cond-false}
-use Rattle.rows.specs.Bits.{among, mask}
 use Rattle.rows.proofs.Bits.{or_assoc}
 use Rattle.grammar.specs.declared.part.Order.TheVariants.{AsSet}
 use Rattle.numbering.specs.Choice.{Choice, empty, node, pair, took}
 use Rattle.laying.specs.Pairs.{row}
-use Rattle.laying.specs.Events.{size, types, tops, arounds, precs, in_order}
+use Rattle.laying.specs.Events.{size, types, arounds, precs}
 use Rattle.laying.specs.Beginning.{whole, starts, beginning_of}
 use Rattle.laying.specs.Promises.{BeginningsStay}
-use Rattle.laying.proofs.Rows.{row_precs_pair, tops_low}
+use Rattle.laying.proofs.Rows.{row_precs_pair, row_outside}
 
 -- Two lists of roots.
 
@@ -53,7 +51,7 @@ starts-append n (x ∷ xs) ys =
 
 -- Lengths.
 
-pub length_types : (x : Choice) → length (types x) ≡ size x
+length_types : (x : Choice) → length (types x) ≡ size x
 unfolding types size
 length_types empty = refl
 length_types (node t x) = ap suc (length_types x)
@@ -68,25 +66,10 @@ length-arounds p n (pair o x y) =
     length-append (arounds p n x) (arounds p (n + size x) y) ∙ ap₂ (λ (a b : ℕ). a + b) (length-arounds p n x) (length-arounds p (n + size x) y)
 length-arounds p n (took d x) = length-arounds p n x
 
-pub length-starts : (n : ℕ) (xs : List Choice) → length (starts n xs) ≡ length xs
+length-starts : (n : ℕ) (xs : List Choice) → length (starts n xs) ≡ length xs
 unfolding starts
 length-starts n [] = refl
 length-starts n (x ∷ xs) = ap suc (length-starts (n + size x) xs)
-
--- A place before the choice precedes nothing of it.
-
-no_top_below : (n : ℕ) (x : Choice) (a : ℕ) → a < n → among (tops n x) a ≡ false
-no_top_below n x a l = elim (cases_Bool (among (tops n x) a)) [ inl h ↦ absurd (omega (arith, tops_low n x a h)) | inr h ↦ h ]
-
-pub row_below : (n : ℕ) (x : Choice) (a : ℕ) → a < n → row (precs n x) a ≡ 0
-unfolding precs row
-row_below n empty a l = refl
-row_below n (node t x) a l = row_below (suc n) x a (omega arith)
-row_below n (pair o x y) a l =
-    row_precs_pair n o x y a
-    ∙ ap₂ bit_or (cond-false (in_order o && among (tops n x) a) (mask (tops (n + size x) y)) 0 (and_right (in_order o) (among (tops n x) a) (no_top_below n x a l)))
-    (ap₂ bit_or (row_below n x a l) (row_below (n + size x) y a (omega arith)))
-row_below n (took d x) a l = row_below n x a l
 
 -- What stays.
 
@@ -104,7 +87,7 @@ starts_stay xs ys = ap (take (length xs)) (starts-append 0 xs ys) ∙ take_at (s
 row_stays : (xs ys : List Choice) (a : ℕ) → a < size (whole xs) → row (precs 0 (whole (xs ++ ys))) a ≡ row (precs 0 (whole xs)) a
 row_stays xs ys a l =
     row_precs-append 0 xs ys a
-    ∙ ap (bit_or (row (precs 0 (whole xs)) a)) (row_below (0 + size (whole xs)) (whole ys) a (omega arith))
+    ∙ ap (bit_or (row (precs 0 (whole xs)) a)) (row_outside (0 + size (whole xs)) (whole ys) a (inl (omega arith)))
     ∙ or_zero_r (row (precs 0 (whole xs)) a)
 
 rows_stay : (xs ys : List Choice) → take (size (whole xs)) (map (row (precs 0 (whole (xs ++ ys)))) (range_with_len 0 (size (whole (xs ++ ys)))))

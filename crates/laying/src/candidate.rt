@@ -1,16 +1,12 @@
 //! The beginnings of candidates.
 
-ghost use Rattle.std.specs.Prelude.{◌≡◌, ◌+◌, ◌-◌, ◌<◌, ◌≤◌, List, [], ◌∷◌, ◌++◌};
+ghost use Rattle.std.specs.Prelude.{◌≡◌, ◌+◌, ◌-◌, ◌<◌, ◌≤◌};
 ghost use Rattle.std.specs.Option.{option_map};
 ghost use Rattle.questions.specs.Limits.{most_events, most_roots};
-ghost use Rattle.grammar.specs.Pattern.{len};
-ghost use Rattle.numbering.specs.Choice.{Choice, node};
-ghost use Rattle.numbering.specs.Numbers.{choice_of};
 ghost use Rattle.numbering.specs.Promises.{PatternsNumbered, RootsNumbered};
-ghost use Rattle.schema.specs.Reading.{pattern_at};
 ghost use Rattle.schema.specs.Told.{table_of};
-ghost use Rattle.laying.specs.Beginning.{beginning_of};
-ghost use Rattle.laying.specs.Lays.{Layable, shown};
+ghost use Rattle.laying.specs.Layable.{Layable, root_choice, longest_root};
+ghost use Rattle.laying.specs.Lays.{shown, AddsRoot};
 ghost use Rattle.laying.specs.Laying.{laid_at};
 ghost use Rattle.laying.specs.Promises.{LayingLaws};
 
@@ -22,12 +18,12 @@ use schema::{Checked, Root};
 /// Lays one more root, whose pattern has this number.
 fn lay_root(schema: &Checked, root: Root, number: u32, laid: &mut Laid)
     requires follows { 0 < root.item }
-    requires layable { Layable (table_of schema.now) schema.now.scope (root.item - 1) number }
+    requires layable { Layable schema.now (root.item - 1) number }
     requires few { laid.old.roots < most_roots }
-    requires room { laid.old.len + (len schema.now.scope (pattern_at (table_of schema.now) (root.item - 1)) + 1) ≤ most_events }
-    ensures lays { (xs : List Choice) → shown laid.old ≡ beginning_of xs → shown laid.new ≡ beginning_of (xs ++ (node root.event (choice_of schema.now.scope (pattern_at (table_of schema.now) (root.item - 1)) number) ∷ [])) }
+    requires room { laid.old.len + longest_root schema.now root ≤ most_events }
+    ensures lays { AddsRoot (root_choice schema.now root number) laid.old laid.new }
     ensures roots { laid.new.roots ≡ laid.old.roots + 1 }
-    ensures length { laid.new.len ≤ laid.old.len + (len schema.now.scope (pattern_at (table_of schema.now) (root.item - 1)) + 1) }
+    ensures length { laid.new.len ≤ laid.old.len + longest_root schema.now root }
 {
     let place = laid.len as u8;
     laid.starts[laid.roots] = place;

@@ -6,9 +6,8 @@
 #![tactic(auto)]
 
 mod candidate;
-mod events;
 pub mod laid;
 mod pattern;
 
 pub use candidate::lay;
-pub use laid::Laid;
+pub use laid::{Laid, LaidEvent};

@@ -1,17 +1,9 @@
 //! The patterns of a checked table, laid by their numbers. Each item lays what earlier items end, so the item's index falls.
 
-ghost use Rattle.std.specs.Prelude.{◌≡◌, ◌+◌, ◌*◌, ◌^◌, ◌<◌, ◌≤◌};
-ghost use Rattle.questions.specs.Limits.{most_candidates, most_events, most_times};
-ghost use Rattle.grammar.specs.Pattern.{count, len};
-ghost use Rattle.grammar.specs.Fits.{Fits};
-ghost use Rattle.numbering.specs.Numbers.{choice_of, times};
-ghost use Rattle.rows.specs.Bits.{mask};
-ghost use Rattle.rows.specs.Row.{value};
-ghost use Rattle.schema.specs.Reading.{pattern_at};
-ghost use Rattle.schema.specs.Progress.{Ends};
-ghost use Rattle.schema.specs.Told.{table_of};
-ghost use Rattle.laying.specs.Events.{tops};
-ghost use Rattle.laying.specs.Lays.{Layable, Lays};
+ghost use Rattle.std.specs.Prelude.{◌≡◌, ◌+◌, ◌≤◌};
+ghost use Rattle.questions.specs.Limits.{most_events};
+ghost use Rattle.laying.specs.Layable.{choice_at, longest, Layable, run_choice, longest_run, LayableRun};
+ghost use Rattle.laying.specs.Lays.{LaysTop};
 
 use crate::laid::Laid;
 use grammar::Order;
@@ -38,11 +30,9 @@ pub(crate) fn lay_pattern(
     around: Option<u8>,
     laid: &mut Laid,
 ) -> Row
-    requires layable { Layable (table_of schema.now) schema.now.scope i number }
-    requires room { laid.old.len + len schema.now.scope (pattern_at (table_of schema.now) i) ≤ most_events }
-    ensures lays { Lays around (choice_of schema.now.scope (pattern_at (table_of schema.now) i) number) laid.old laid.new }
-    ensures tops { value result ≡ mask (tops laid.old.len (choice_of schema.now.scope (pattern_at (table_of schema.now) i) number)) }
-    ensures length { laid.new.len ≤ laid.old.len + len schema.now.scope (pattern_at (table_of schema.now) i) }
+    requires layable { Layable schema.now i number }
+    requires room { laid.old.len + longest schema.now i ≤ most_events }
+    ensures { LaysTop around (choice_at schema.now i number) (longest schema.now i) laid.old laid.new result }
 {
     match schema.item(i) {
         Item::Nothing => Row::none(),
@@ -82,27 +72,22 @@ pub(crate) fn lay_pattern(
 /// Lays occurrences of the pattern of item `i`: the first, and then the others.
 #[cycle(lay_pattern_lay_run)]
 fn lay_run(schema: &Checked, i: usize, run: Run, around: Option<u8>, laid: &mut Laid) -> Row
-    requires ends { Ends (table_of schema.now) i }
-    requires fits { Fits schema.now.scope (pattern_at (table_of schema.now) i) }
-    requires once { run.once ≡ count schema.now.scope (pattern_at (table_of schema.now) i) }
-    requires power { (run.left.power ≡ run.once ^ run.left.times) × ((run.left.number < run.left.power) × (run.left.power ≤ most_candidates)) }
-    requires room { (run.left.times ≤ most_times) × (laid.old.len + run.left.times * len schema.now.scope (pattern_at (table_of schema.now) i) ≤ most_events) }
-    ensures lays { Lays around (times run.order (choice_of schema.now.scope (pattern_at (table_of schema.now) i)) run.once run.left.times run.left.number) laid.old laid.new }
-    ensures tops { value result ≡ mask (tops laid.old.len (times run.order (choice_of schema.now.scope (pattern_at (table_of schema.now) i)) run.once run.left.times run.left.number)) }
-    ensures length { laid.new.len ≤ laid.old.len + run.left.times * len schema.now.scope (pattern_at (table_of schema.now) i) }
+    requires runs { LayableRun schema.now i run }
+    requires room { laid.old.len + longest_run schema.now i run ≤ most_events }
+    ensures { LaysTop around (run_choice schema.now i run) (longest_run schema.now i run) laid.old laid.new result }
 {
     if run.left.times == 0 {
         return Row::none();
     }
-    let others = (run.left.power / u64::from(run.once)) as u32;
-    let (n, rest) = split_pair(run.left.number, others);
+    let others = run.left.power / u64::from(run.once);
+    let (n, rest) = split_pair(run.left.number, others as u32);
     let from = laid.len;
     let first = lay_pattern(schema, i, n, around, laid);
     let to = laid.len;
     let left = Repeated {
         times: run.left.times - 1,
         number: rest,
-        power: u64::from(others),
+        power: others,
     };
     let second = lay_run(schema, i, Run { left, ..run }, around, laid);
     laid.order(run.order, from, to, first, second)

@@ -2,7 +2,6 @@
 
 ghost use Rattle.std.specs.Prelude.{◌≡◌, ◌*◌, ◌≤◌, ◌++◌, length};
 ghost use Rattle.questions.specs.Limits.{most_events};
-ghost use Rattle.rows.specs.Row.{value};
 ghost use Rattle.schema.specs.Told.{table_of};
 ghost use Rattle.laying.specs.Lays.{shown};
 ghost use Rattle.text.specs.Room.{text_room, kept};
@@ -10,8 +9,7 @@ ghost use Rattle.lines.specs.Card.{most_line};
 ghost use Rattle.lines.specs.Laid.{around_word, event_line, event_lines, number_lines, laid_text};
 
 use crate::refused::write_refusal;
-use laying::{Laid, lay};
-use rows::Row;
+use laying::{Laid, LaidEvent, lay};
 use schema::Checked;
 use text::Text;
 
@@ -27,15 +25,15 @@ fn push_around(text: &mut Text, around: Option<u8>)
 }
 
 /// Adds the line of an event.
-fn push_event(text: &mut Text, event: u8, around: Option<u8>, precedes: Row)
-    ensures pushed { text.new ≡ kept (text.old ++ event_line event around (value precedes)) }
-    ensures short { length (event_line event around (value precedes)) ≤ most_line }
+fn push_event(text: &mut Text, event: LaidEvent)
+    ensures pushed { text.new ≡ kept (text.old ++ event_line event.event event.around event.precedes) }
+    ensures short { length (event_line event.event event.around event.precedes) ≤ most_line }
 {
-    text.push_decimal(u64::from(event));
+    text.push_decimal(u64::from(event.event));
     text.push(b' ');
-    push_around(text, around);
+    push_around(text, event.around);
     text.push(b' ');
-    text.push_decimal(precedes.number());
+    text.push_decimal(event.precedes.number());
     text.push(b'\n');
 }
 
@@ -45,8 +43,8 @@ fn push_events(text: &mut Text, laid: &Laid)
     ensures pushed { text.new ≡ kept (text.old ++ event_lines (shown laid.now)) }
     ensures short { length (event_lines (shown laid.now)) ≤ most_line * most_events }
 {
-    for i in 0..laid.len {
-        push_event(text, laid.types[i], laid.around[i], laid.precedes[i]);
+    for event in laid.events() {
+        push_event(text, *event);
     }
 }
 

@@ -2,9 +2,11 @@
 
 ghost use Rattle.std.specs.Prelude.{◌≡◌, bit_or};
 ghost use Rattle.rows.specs.Bits.{bit};
-ghost use Rattle.rows.specs.Row.{value, one_bit};
+ghost use Rattle.rows.specs.Row.{one_bit};
 
-use questions::limits::MOST_EVENTS;
+use questions::limits::EVENT_PLACES;
+use std::marker::Model;
+use std::ops::{BitOr, BitOrAssign};
 
 /// Bit j says something of event j.
 #[derive(Clone, Copy)]
@@ -12,19 +14,30 @@ pub struct Row {
     bits: u64,
 }
 
+// Clauses see a row as the number that it holds: bit j stands for place j.
+impl Model for Row {
+    ghost use Rattle.std.specs.Prelude.{ℕ};
+
+    ghost Value = { ℕ };
+
+    ghost view = { λ r. r.bits };
+
+    ghost inverse = { λ n. record { bits = n } };
+}
+
 impl Row {
     /// No bit.
     pub fn none() -> Row
-        ensures { value result ≡ 0 }
+        ensures { result ≡ 0 }
     {
         Row { bits: 0 }
     }
 
     /// The bit of one place; past the last place, none.
     pub fn one(place: usize) -> Row
-        ensures { value result ≡ one_bit place }
+        ensures { result ≡ one_bit place }
     {
-        if place < MOST_EVENTS as usize {
+        if place < EVENT_PLACES {
             Row { bits: 1 << place }
         } else {
             Row::none()
@@ -33,24 +46,37 @@ impl Row {
 
     /// Is the bit of this place set?
     pub fn has(self, place: usize) -> bool
-        ensures { result ≡ bit (value self) place }
+        ensures { result ≡ bit self place }
     {
-        place < MOST_EVENTS as usize && (self.bits >> place) & 1 == 1
-    }
-
-    /// The bits of both.
-    pub fn or(self, other: Row) -> Row
-        ensures { value result ≡ bit_or (value self) (value other) }
-    {
-        Row {
-            bits: self.bits | other.bits,
-        }
+        place < EVENT_PLACES && (self.bits >> place) & 1 == 1
     }
 
     /// The number whose bits these are.
     pub fn number(self) -> u64
-        ensures { result ≡ value self }
+        ensures { result ≡ self }
     {
         self.bits
+    }
+}
+
+/// The bits of both.
+impl BitOr for Row {
+    type Output = Row;
+
+    ghost bitor_gives = { λ self other result. result ≡ bit_or self other };
+
+    fn bitor(self, other: Row) -> Row {
+        Row {
+            bits: self.bits | other.bits,
+        }
+    }
+}
+
+/// Sets the bits of the other row too.
+impl BitOrAssign for Row {
+    ghost bitor_assign_gives = { λ old other new. new ≡ bit_or old other };
+
+    fn bitor_assign(&mut self, other: Row) {
+        *self = *self | other;
     }
 }

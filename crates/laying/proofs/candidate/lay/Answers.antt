@@ -1,13 +1,7 @@
-use Rattle.std.proofs.Common.{◌≡◌, ◌+◌, ◌-◌, ◌/◌, List, [], ◌∷◌, ◌++◌, sym, subst, inl, inr, arith}
-use Rattle.numbering.specs.Choice.{Choice, node}
-use Rattle.numbering.specs.Numbers.{choice_of}
+use Rattle.std.proofs.Common.{◌<◌, length, inl, inr, arith}
 use Rattle.numbering.proofs.Numbered.{patterns_numbered, roots_numbered}
-use Rattle.schema.specs.Reading.{pattern_at, schema_of}
-use Rattle.schema.specs.Told.{table_of}
-use Rattle.laying.specs.Beginning.{beginning_of}
-use Rattle.laying.specs.Lays.{Layable, shown}
 use Rattle.laying.specs.Promises.{LayingLaws}
-use Rattle.laying.proofs.Candidates.{Begun, digit, follows, layable, room_at, few, begun_none, begun_more, begun_all, laid_not}
+use Rattle.laying.proofs.Candidates.{roots_of, digit, follows, layable, room_at, few, begun_none, begun_more, begun_all, laid_not}
 use Rattle.laying.proofs.Enclosing.{nearest, around_is_in, outermost}
 use Rattle.laying.proofs.Preceding.{parts, occurrences}
 use Rattle.laying.proofs.Repeating.{repetitions}
@@ -34,22 +28,21 @@ pub loop-k-init : goal.loop-k-init
 loop-k-init c = begun_none c.args.schema.now c.args.number c.total-after.result c.nothing-laid.result c.total-after.ensures (omega (arith, c.if-number-total.false, c.total.ensures, c.total-after.ensures)) c.nothing-laid.ensures.shown c.nothing-laid.ensures.none.0 c.nothing-laid.ensures.none.1
 
 pub nonzero_div-after : goal.nonzero_div-after
-nonzero_div-after c = (digit c.args.schema.now c.args.number c.loop-k.k c.loop-k.rest c.loop-k.after c.loop-k.laid c.root-root.result (omega (arith, c.loop-k-test.true, c.if-roots.false, c.roots.ensures)) c.root-root.ensures c.loop-k.invariant).some
+nonzero_div-after c = (digit (omega (arith, c.loop-k-test.true, c.if-roots.false, c.roots.ensures)) c.root-root.ensures c.loop-k.invariant).some
 
 pub lay_root-requires : goal.lay_root-requires
-lay_root-requires c = record {
-  follows = follows c.args.schema.now c.args.number c.loop-k.k c.loop-k.rest c.loop-k.after c.loop-k.laid c.root-root.result (omega (arith, c.loop-k-test.true, c.if-roots.false, c.roots.ensures)) c.root-root.ensures c.loop-k.invariant;
-  layable = subst (λ n. Layable (table_of c.args.schema.now) c.args.schema.now.scope (c.root-root.result.item - 1) n) (sym c.split_pair-digit.ensures.earlier) (layable c.args.schema.now c.args.number c.loop-k.k c.loop-k.rest c.loop-k.after c.loop-k.laid c.root-root.result (omega (arith, c.loop-k-test.true, c.if-roots.false, c.roots.ensures)) c.root-root.ensures c.loop-k.invariant);
-  few = few c.args.schema.now c.args.number c.loop-k.k c.loop-k.rest c.loop-k.after c.loop-k.laid c.root-root.result (omega (arith, c.loop-k-test.true, c.if-roots.false, c.roots.ensures)) c.root-root.ensures c.loop-k.invariant;
-  room = room_at c.args.schema.now c.args.number c.loop-k.k c.loop-k.rest c.loop-k.after c.loop-k.laid c.root-root.result (omega (arith, c.loop-k-test.true, c.if-roots.false, c.roots.ensures)) c.root-root.ensures c.loop-k.invariant;
-}
+lay_root-requires c =
+    let lt : c.loop-k.k < length (roots_of c.args.schema.now) = omega (arith, c.loop-k-test.true, c.if-roots.false, c.roots.ensures) in
+    let is = c.root-root.ensures in
+    let g = c.loop-k.invariant in
+    record { follows = follows lt is g; layable = layable lt is g c.split_pair-digit.ensures.earlier; few = few lt is g; room = room_at lt is g }
 
 pub loop-k-preserved : goal.loop-k-preserved
 loop-k-preserved c =
-    subst (λ m. Begun c.args.schema.now.scope (schema_of (table_of c.args.schema.now)).roots c.args.number (c.loop-k.k + 1) m (c.loop-k.after / c.root-root.result.count) c.lay_root.new.laid) (sym c.split_pair-digit.ensures.later)
-    (begun_more c.args.schema.now c.args.number c.loop-k.k c.loop-k.rest c.loop-k.after c.loop-k.laid c.root-root.result (omega (arith, c.loop-k-test.true, c.if-roots.false, c.roots.ensures)) c.root-root.ensures c.loop-k.invariant c.lay_root.new.laid
-    (subst (λ n. (xs : List Choice) → shown c.loop-k.laid ≡ beginning_of xs → shown c.lay_root.new.laid ≡ beginning_of (xs ++ (node c.root-root.result.event (choice_of c.args.schema.now.scope (pattern_at (table_of c.args.schema.now) (c.root-root.result.item - 1)) n) ∷ []))) c.split_pair-digit.ensures.earlier c.lay_root.ensures.lays)
-    c.lay_root.ensures.roots c.lay_root.ensures.length)
+    let lt : c.loop-k.k < length (roots_of c.args.schema.now) = omega (arith, c.loop-k-test.true, c.if-roots.false, c.roots.ensures) in
+    let d = c.split_pair-digit.ensures in
+    let h = c.lay_root.ensures in
+    begun_more lt c.root-root.ensures c.loop-k.invariant d.earlier d.later h.lays h.roots h.length
 
 pub returns : goal.returns
 returns c = record {

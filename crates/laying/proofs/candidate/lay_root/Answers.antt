@@ -1,20 +1,16 @@
-use Rattle.std.proofs.Common.{◌-◌, Some, None, refl, ap, ◌∙◌, subst, arith, rules}
-use Rattle.grammar.specs.Pattern.{len}
-use Rattle.numbering.specs.Choice.{node}
-use Rattle.numbering.specs.Numbers.{choice_of}
-use Rattle.schema.specs.Reading.{pattern_at}
-use Rattle.schema.specs.Told.{table_of}
-use Rattle.laying.specs.Lays.{Lays}
-use Rattle.laying.proofs.Laws.{lays_node}
+use Rattle.std.proofs.Common.{◌-◌, Some, refl, subst, rules}
+use Rattle.laying.specs.Layable.{longest, choice_at}
+use Rattle.laying.specs.Lays.{LaysTop}
+use Rattle.laying.proofs.Laws.{laid_node}
 use Rattle.laying.proofs.Roots.{one_more_root}
 use Rattle.laying.proofs.candidate.lay_root.Goals as goal
 
 pub returns : goal.returns
-returns c = record {
-  lays = λ xs e. one_more_root xs (node c.args.root.event (choice_of c.args.schema.now.scope (pattern_at (table_of c.args.schema.now) (c.args.root.item - 1)) c.args.number)) c.args.laid.now _ c.lay_pattern.new.laid e
-      (record { len = refl; types = refl; around = refl; precedes = refl; roots = refl; starts = refl; room = search rules })
-      (lays_node c.args.root.event None _ _ c.push.new.self c.lay_pattern.new.laid c.push.ensures.pushed
-      (subst (λ k. Lays (Some c.args.laid.now.len) (choice_of c.args.schema.now.scope (pattern_at (table_of c.args.schema.now) (k - 1)) c.args.number) c.push.new.self c.lay_pattern.new.laid) c.from.ensures c.lay_pattern.ensures.lays));
-  roots = c.lay_pattern.ensures.lays.roots ∙ c.push.ensures.pushed.roots;
-  length = omega (arith, c.lay_pattern.ensures.length, c.push.ensures.pushed.len, ap (λ k. len c.args.schema.now.scope (pattern_at (table_of c.args.schema.now) (k - 1))) c.from.ensures);
-}
+returns c =
+    let h = laid_node c.push.ensures.pushed c.push.ensures.top
+    (subst (λ k. LaysTop (Some c.args.laid.now.len) (choice_at c.args.schema.now (k - 1) c.args.number) (longest c.args.schema.now (k - 1)) c.push.new.self c.lay_pattern.new.laid c.lay_pattern.result) c.from.ensures c.lay_pattern.ensures) in
+    record {
+      lays = one_more_root _ c.args.laid.now _ c.lay_pattern.new.laid (record { len = refl; events = refl; roots = refl; starts = refl; room = search rules }) h.lays;
+      roots = h.lays.roots;
+      length = h.length;
+    }

@@ -5,5 +5,5 @@ use Rattle.lines.specs.Card.{most_line}
 use Rattle.lines.specs.Laid.{first_lines}
 use Rattle.lines.proofs.laid.push_events.Given as goal
 
-abbrev pub invariant-loop-i : goal.invariant-loop-i
-invariant-loop-i l = (l.text ≡ kept (l.initial.text ++ first_lines (shown l.laid) l.i)) × (length (first_lines (shown l.laid) l.i) ≤ most_line * l.i)
+abbrev pub invariant-loop-event : goal.invariant-loop-event
+invariant-loop-event l = (l.text ≡ kept (l.initial.text ++ first_lines (shown l.laid) l.event-index)) × (length (first_lines (shown l.laid) l.event-index) ≤ most_line * l.event-index)

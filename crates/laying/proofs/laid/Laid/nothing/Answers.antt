@@ -4,6 +4,6 @@ use Rattle.laying.specs.Beginning.{starts, beginning_of}
 use Rattle.laying.specs.Lays.{shown}
 use Rattle.laying.proofs.laid.Laid.nothing.Goals as goal
 
-pub returns : goal.returns
+pub returns-clause-shown : goal.returns-clause-shown
 unfolding shown beginning_of size types arounds starts
-returns c = record { shown = refl; none = (refl, refl) }
+returns-clause-shown c = refl

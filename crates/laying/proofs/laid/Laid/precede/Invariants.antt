@@ -1,11 +1,7 @@
-use Rattle.std.proofs.Common.{◌≡◌, ℕ}
-use lib.Bits.{bit_or}
-use Rattle.rows.specs.Row.{value}
-use Rattle.laying.specs.Lays.{row_at}
-use Rattle.laying.proofs.Laws.{ordered_below}
+use Rattle.std.proofs.Common.{◌≡◌, ◌+◌, ◌++◌, take, drop}
+use Rattle.laying.specs.Lays.{preceding}
 use Rattle.laying.proofs.laid.Laid.precede.Given as goal
 
 abbrev pub invariant-loop-i : goal.invariant-loop-i
 invariant-loop-i l =
-    (l.self.len ≡ l.initial.self.len) × (l.self.types ≡ l.initial.self.types) × (l.self.around ≡ l.initial.self.around) × (l.self.roots ≡ l.initial.self.roots)
-    × (l.self.starts ≡ l.initial.self.starts) × ((a : ℕ) → row_at l.self a ≡ bit_or (row_at l.initial.self a) (ordered_below l.i (value l.earlier) (value l.later) a))
+    take l.i l.events ++ preceding l.earlier l.later (l.from + l.i) (drop l.i l.events) ≡ preceding l.earlier l.later l.from l.initial.events
