@@ -2,7 +2,7 @@
 use Rattle.std.proofs.Common.{◌≡◌, ℕ, zero, suc, ◌+◌, ◌-◌, ◌*◌, ◌/◌, ◌%◌, ◌<◌, ◌≤◌, false, cond, ◌&&◌, ltb, leb, ◌⊎◌, List, [], ◌∷◌, ◌++◌, length, get_or, take, drop, Some, None, Option, sym, refl, ap, ◌∙◌, subst, ap₂, inl, inr, append_assoc, mul_comm, div-le_self, arith, length-append}
 use native.Mathlib.Nat.{mul-div_cancel_left}
 use Rattle.std.proofs.lemmas.Nat.{div_below, mod_below}
-use Rattle.std.proofs.lemmas.List.{take_at, drop_more}
+use Rattle.std.proofs.lemmas.List.{take_at, drop_more, get_or-take, get_or_append_left, length-take-le}
 use Rattle.std.proofs.lemmas.Bool.{lt-ltb, le-ltb, le-leb, lt-leb, and_right}
 use Rattle.questions.specs.Limits.{most_events, most_roots}
 use Rattle.grammar.specs.Pattern.{count, len}
@@ -11,13 +11,13 @@ use Rattle.grammar.specs.Schema.{Rooted, candidates, events}
 use Rattle.numbering.specs.Choice.{Choice, node}
 use Rattle.numbering.specs.Numbers.{choice_of, choices_of}
 use Rattle.schema.specs.Reading.{schema_of}
-use Rattle.schema.specs.Plans.{no_root}
+use Rattle.schema.specs.Plans.{no_root, entries}
 use Rattle.schema.specs.Sound.{Planned, Sound, no_rooted}
 use Rattle.schema.specs.Told.{table_of, root_found}
 use Rattle.schema.specs.declared.checked.Checked.{Checked}
 use Rattle.schema.specs.declared.plan.Plan.{Plan}
 use Rattle.schema.specs.declared.plan.Root.{Root}
-use Rattle.schema.proofs.Carried.{checked_sound, checked_total}
+use Rattle.schema.proofs.Carried.{checked_sound, checked_total, length-entries}
 use Rattle.laying.specs.Beginning.{Beginning, beginning_of}
 use Rattle.laying.specs.Layable.{Layable, root_choice, longest_root}
 use Rattle.laying.specs.Lays.{shown, AddsRoot}
@@ -66,6 +66,19 @@ fits_at : (s k : ℕ) (rs : List Rooted) → RootsFit s rs → k < length rs →
 fits_at s k [] f h = absurd (omega arith)
 fits_at s zero (r ∷ rs) f h = f.0.0
 fits_at s (suc k) (r ∷ rs) f h = fits_at s k rs f.1 (omega arith)
+
+-- the planned roots are the entries of the plan, and the first j of them are j
+planned_many : (c : Checked) (j : ℕ) → j ≤ length (roots_of c) → length (take j (entries c.scope 0 (roots_of c))) ≡ j
+planned_many c j le = length-take-le j (entries c.scope 0 (roots_of c)) (omega (arith, length-entries c.scope 0 (roots_of c)))
+
+pub first_planned : (c : Checked) (xs : List Root) (j : ℕ) → xs ≡ entries c.scope 0 (roots_of c) → j ≤ length (roots_of c) → length (take j xs) ≡ j
+first_planned c xs j e le = ap (λ ys. length (take j ys)) e ∙ planned_many c j le
+
+pub planned_is : (c : Checked) (xs : List Root) (j k : ℕ) → xs ≡ entries c.scope 0 (roots_of c) → k < j → j ≤ length (roots_of c) → get_or (take j xs) k no_root ≡ root_found (table_of c) c.scope k
+planned_is c xs j k e lt le =
+    ap (λ ys. get_or (take j ys) k no_root) e
+    ∙ (get_or-take j (entries c.scope 0 (roots_of c)) k no_root lt
+    ∙ sym (get_or_append_left (entries c.scope 0 (roots_of c)) _ no_root k (omega (arith, length-entries c.scope 0 (roots_of c)))))
 
 module _ {c : Checked} {n k rest after : ℕ} {l : Laid} {e : Root} (lt : k < length (roots_of c)) (is : e ≡ root_found (table_of c) c.scope k) (g : Begun c n k rest after l) where
   abbrev rs : List Rooted

@@ -50,11 +50,10 @@ pub fn lay(schema: &Checked, number: u32, roots: usize) -> Option<Laid>
     let mut laid = Laid::nothing();
     let mut after = schema.total();
     let mut rest = number;
-    for k in 0..roots {
-        let root = schema.root(k);
+    for root in &schema.planned()[..roots] {
         after /= root.count;
         let (digit, left) = split_pair(rest, after);
-        lay_root(schema, root, digit, &mut laid);
+        lay_root(schema, *root, digit, &mut laid);
         rest = left;
     }
     Some(laid)

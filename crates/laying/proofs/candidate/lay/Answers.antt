@@ -1,7 +1,7 @@
-use Rattle.std.proofs.Common.{◌<◌, length, inl, inr, arith}
+use Rattle.std.proofs.Common.{◌<◌, ◌≤◌, length, sym, inl, inr, arith}
 use Rattle.numbering.proofs.Numbered.{patterns_numbered, roots_numbered}
 use Rattle.laying.specs.Promises.{LayingLaws}
-use Rattle.laying.proofs.Candidates.{roots_of, digit, follows, layable, room_at, few, begun_none, begun_more, begun_all, laid_not}
+use Rattle.laying.proofs.Candidates.{roots_of, first_planned, planned_is, digit, follows, layable, room_at, few, begun_none, begun_more, begun_all, laid_not}
 use Rattle.laying.proofs.Enclosing.{nearest, around_is_in, outermost}
 use Rattle.laying.proofs.Preceding.{parts, occurrences}
 use Rattle.laying.proofs.Repeating.{repetitions}
@@ -24,29 +24,46 @@ returns-then-number-total c = record {
   laws = laws;
 }
 
-pub loop-k-init : goal.loop-k-init
-loop-k-init c = begun_none c.args.schema.now c.args.number c.total-after.result c.nothing-laid.result c.total-after.ensures (omega (arith, c.if-number-total.false, c.total.ensures, c.total-after.ensures)) c.nothing-laid.ensures.shown c.nothing-laid.ensures.none.0 c.nothing-laid.ensures.none.1
+pub slice_bounds-root-items-end : goal.slice_bounds-root-items-end
+slice_bounds-root-items-end c = sym (first_planned c.args.schema.now c.planned.result.now c.args.roots c.planned.ensures (omega (arith, c.if-roots.false, c.roots.ensures)))
+
+pub loop-root-init : goal.loop-root-init
+loop-root-init c = begun_none c.args.schema.now c.args.number c.total-after.result c.nothing-laid.result c.total-after.ensures (omega (arith, c.if-number-total.false, c.total.ensures, c.total-after.ensures)) c.nothing-laid.ensures.shown c.nothing-laid.ensures.none.0 c.nothing-laid.ensures.none.1
 
 pub nonzero_div-after : goal.nonzero_div-after
-nonzero_div-after c = (digit (omega (arith, c.loop-k-test.true, c.if-roots.false, c.roots.ensures)) c.root-root.ensures c.loop-k.invariant).some
+nonzero_div-after c =
+    let s = c.args.schema.now in
+    let le : c.args.roots ≤ length (roots_of s) = omega (arith, c.if-roots.false, c.roots.ensures) in
+    let lt : c.loop-root.root-index < c.args.roots = omega (arith, c.loop-root-test.true, first_planned s c.planned.result.now c.args.roots c.planned.ensures le) in
+    let is = planned_is s c.planned.result.now c.args.roots c.loop-root.root-index c.planned.ensures lt le in
+    (digit (omega (arith, lt, le)) is c.loop-root.invariant).some
 
 pub lay_root-requires : goal.lay_root-requires
 lay_root-requires c =
-    let lt : c.loop-k.k < length (roots_of c.args.schema.now) = omega (arith, c.loop-k-test.true, c.if-roots.false, c.roots.ensures) in
-    let is = c.root-root.ensures in
-    let g = c.loop-k.invariant in
-    record { follows = follows lt is g; layable = layable lt is g c.split_pair-digit.ensures.earlier; few = few lt is g; room = room_at lt is g }
+    let s = c.args.schema.now in
+    let le : c.args.roots ≤ length (roots_of s) = omega (arith, c.if-roots.false, c.roots.ensures) in
+    let lt : c.loop-root.root-index < c.args.roots = omega (arith, c.loop-root-test.true, first_planned s c.planned.result.now c.args.roots c.planned.ensures le) in
+    let is = planned_is s c.planned.result.now c.args.roots c.loop-root.root-index c.planned.ensures lt le in
+    let more : c.loop-root.root-index < length (roots_of s) = omega (arith, lt, le) in
+    let g = c.loop-root.invariant in
+    record { follows = follows more is g; layable = layable more is g c.split_pair-digit.ensures.earlier; few = few more is g; room = room_at more is g }
 
-pub loop-k-preserved : goal.loop-k-preserved
-loop-k-preserved c =
-    let lt : c.loop-k.k < length (roots_of c.args.schema.now) = omega (arith, c.loop-k-test.true, c.if-roots.false, c.roots.ensures) in
+pub loop-root-preserved : goal.loop-root-preserved
+loop-root-preserved c =
+    let s = c.args.schema.now in
+    let le : c.args.roots ≤ length (roots_of s) = omega (arith, c.if-roots.false, c.roots.ensures) in
+    let lt : c.loop-root.root-index < c.args.roots = omega (arith, c.loop-root-test.true, first_planned s c.planned.result.now c.args.roots c.planned.ensures le) in
+    let is = planned_is s c.planned.result.now c.args.roots c.loop-root.root-index c.planned.ensures lt le in
     let d = c.split_pair-digit.ensures in
     let h = c.lay_root.ensures in
-    begun_more lt c.root-root.ensures c.loop-k.invariant d.earlier d.later h.lays h.roots h.length
+    begun_more (omega (arith, lt, le)) is c.loop-root.invariant d.earlier d.later h.lays h.roots h.length
 
 pub returns : goal.returns
-returns c = record {
-  answer = begun_all c.args.schema.now c.args.number c.args.roots c.loop-k.k c.loop-k.rest c.loop-k.after c.loop-k.laid c.loop-k-test.false c.loop-k.auto.k-end (omega (arith, c.if-number-total.false, c.total.ensures)) (omega (arith, c.if-roots-eq0.false)) (omega (arith, c.if-roots.false, c.roots.ensures)) c.loop-k.invariant;
-  numbers = (patterns_numbered, roots_numbered);
-  laws = laws;
-}
+returns c =
+    let le : c.args.roots ≤ length (roots_of c.args.schema.now) = omega (arith, c.if-roots.false, c.roots.ensures) in
+    let many = first_planned c.args.schema.now c.planned.result.now c.args.roots c.planned.ensures le in
+    record {
+      answer = begun_all c.args.schema.now c.args.number c.args.roots c.loop-root.root-index c.loop-root.rest c.loop-root.after c.loop-root.laid (omega (arith, c.loop-root-test.false, many)) (omega (arith, c.loop-root.auto.root-index-end, many)) (omega (arith, c.if-number-total.false)) (omega (arith, c.if-roots-eq0.false)) le c.loop-root.invariant;
+      numbers = (patterns_numbered, roots_numbered);
+      laws = laws;
+    }

@@ -1,5 +1,5 @@
 use Rattle.laying.proofs.Candidates.{Begun}
 use Rattle.laying.proofs.candidate.lay.Given as goal
 
-abbrev pub invariant-loop-k : goal.invariant-loop-k
-invariant-loop-k l = Begun l.schema l.number l.k l.rest l.after l.laid
+abbrev pub invariant-loop-root : goal.invariant-loop-root
+invariant-loop-root l = Begun l.schema l.number l.root-index l.rest l.after l.laid
