@@ -33,7 +33,7 @@ pub fn product_capped(a: u32, b: u32) -> u32
 fn powers_capped(c: u32, least: u8, most: u8) -> u32
     ensures { result ≡ count_capped (powers c (span least most) least) }
 {
-    let mut power = count_capped(u64::from(c).saturating_pow(u32::from(least)));
+    let mut power = count_capped(u64::from(c.saturating_pow(u32::from(least))));
     let mut sum = 0;
     for _k in least..=most {
         sum = count_capped(u64::from(sum) + u64::from(power));
