@@ -1,5 +1,6 @@
 -- The card of a table. Assumes nothing.
 use Rattle.std.specs.Prelude.{ℕ, ◌+◌, cond, List, [], ◌∷◌, ◌++◌, Ok, Err, codes, decimal, Result, ◌==◌}
+use Rattle.std.specs.List.{flat_map}
 use Rattle.questions.specs.Numbers.{refusal_line}
 use Rattle.questions.specs.declared.refusal.Refusal.{Refusal}
 use Rattle.grammar.specs.Pattern.{count, len}
@@ -25,8 +26,7 @@ total_line n = codes "total " ++ (decimal n ++ line_end)
 
 -- a line for each root of a schema at scope s: its type, how many choices it has, how many events it lays at most
 abbrev pub root_lines : ℕ → List Rooted → List ℕ
-root_lines s [] = []
-root_lines s (r ∷ rs) = root_line r.event (count s r.pattern) (len s r.pattern + 1) ++ root_lines s rs
+root_lines s = flat_map (λ r. root_line r.event (count s r.pattern) (len s r.pattern + 1))
 
 abbrev pub answer_lines : ℕ → List Rooted → Result ℕ Refusal → List ℕ
 answer_lines s rs (Ok n) = root_lines s rs ++ total_line n
@@ -42,5 +42,4 @@ abbrev pub entry_line : Root → List ℕ
 entry_line r = cond (r.length == 0) [] (root_line r.event r.count r.length)
 
 abbrev pub entry_lines : List Root → List ℕ
-entry_lines [] = []
-entry_lines (r ∷ rs) = entry_line r ++ entry_lines rs
+entry_lines = flat_map entry_line

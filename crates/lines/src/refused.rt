@@ -9,6 +9,7 @@ use questions::Refusal;
 use questions::limits::NO_ITEM;
 
 /// Writes `no QUESTION ITEM`, and ends the line.
+// `Refusal` displays so too, but what is displayed may fail as far as `fmt::Write` says, and text in fixed room never does.
 pub(crate) fn write_refusal<P: Page>(page: &mut P, refusal: Refusal) -> Result<(), P::Error>
     ensures written { OnOk result (P.adds page.old (refusal_line refusal ++ line_end) page.new) }
     ensures short { OnOk result (length (refusal_line refusal ++ line_end) ≤ most_line) }

@@ -9,6 +9,7 @@ use std::marker::Model;
 pub const TEXT_ROOM: usize = 2048;
 
 /// The first `len` bytes are the text.
+// An array with its length beside, since a library allocates nothing.
 #[derive(Drop)]
 pub struct Text {
     bytes: [u8; TEXT_ROOM],
@@ -56,6 +57,7 @@ impl Text {
     }
 
     /// Adds a number in decimal: first all digits but the last, where there are more, and then the last.
+    // Digit by digit, since what is displayed may fail as far as `fmt::Write` says, and this never does.
     pub fn push_decimal(&mut self, n: u64)
         ensures { self.new ≡ kept (self.old ++ decimal n) }
     {
