@@ -1,5 +1,4 @@
 use Rattle.std.proofs.Common.{◌-◌, ◌^◌, refl, ap, ◌∙◌, ap₂, rules, arith}
-use Rattle.std.proofs.lemmas.Grind.{common_steps}
 use Rattle.std.proofs.lemmas.Iterator.{YieldsList-from_range, YieldsList-from_map}
 use Rattle.std.proofs.lemmas.Iterator.Adapters.{fits_from_length, at_most_from_yields_List}
 use Rattle.std.proofs.lemmas.Iterator.Consumers.{sum_from_yields_List}
@@ -13,7 +12,7 @@ pub sum-requires-clause-fits : goal.sum-requires-clause-fits
 sum-requires-clause-fits c =
     let few = length-range_with_len c.args.first (c.args.last - c.args.first) in
     fits_from_length _ _ (2 ^ 32) 18446744073709551616 (at_most_from_yields_List (YieldsList-from_range _ _ (c.args.last - c.args.first) c.map.ensures.source refl) (omega (arith, few)))
-    c.map.ensures.closure (omega arith) (λ x r q k. (search rules, grind (arith, common_steps)))
+    c.map.ensures.closure (omega arith) (λ x r q k. search rules)
 
 pub returns : goal.returns
 returns c =
@@ -21,5 +20,5 @@ returns c =
     let n = c.args.last - c.args.first in
     sum_from_yields_List c.map.result c.sum.result c.sum.ensures.ran
     (YieldsList-from_map _ (events_at (table_of c.in-Ok.schema) c.in-Ok.schema.scope) (YieldsList-from_range _ _ n c.map.ensures.source refl) c.map.ensures.closure
-    (λ x r q k. (search rules, grind (arith, common_steps))))
+    (λ x r q k. (search rules, search rules)))
     ∙ (ap₂ (λ b s. events_from b s c.args.first n) h.0 h.1 ∙ ap (λ v. told_events v (events_from c.args.table.now c.args.scope c.args.first n)) c.in-Ok.ensures.answer)
