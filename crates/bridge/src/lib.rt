@@ -30,10 +30,9 @@ fn events_at(schema: &Checked, number: u32) -> u64
     ensures events { result ≡ events_at (table_of schema.now) schema.now.scope number }
     ensures few { result ≤ most_events }
 {
-    match lay(schema, number, schema.roots()) {
-        Some(laid) => laid.events().len() as u64,
-        None => 0,
-    }
+    lay(schema, number, schema.roots())
+        .as_ref()
+        .map_or(0, |laid| laid.events().len() as u64)
 }
 
 /// Lays the candidates from `first` on and below `last`, one after another, and tells how many events that were; 0 for a refused table.
@@ -43,9 +42,5 @@ pub fn mandolkhui_lay(table: &[u8], scope: u8, first: u32, last: u32) -> u64
     let Ok(schema) = Checked::of(table, scope) else {
         return 0;
     };
-    let mut events = 0;
-    for number in first..last {
-        events += events_at(&schema, number);
-    }
-    events
+    (first..last).map(|number| events_at(&schema, number)).sum()
 }

@@ -7,7 +7,7 @@ use Rattle.lines.proofs.Events.{shown_more, shown_all}
 use Rattle.lines.proofs.laid.push_events.Goals as goal
 
 pub loop-event-init : goal.loop-event-init
-loop-event-init c = (kept_text c.args.text.now c.requires, omega arith)
+loop-event-init c = record { pushed = kept_text c.args.text.now c.requires; short = omega arith }
 
 pub loop-event-preserved : goal.loop-event-preserved
 loop-event-preserved c =
@@ -18,10 +18,11 @@ loop-event-preserved c =
     let line = event_line x.event x.around x.precedes in
     let h = c.events-event-items.ensures.events in
     let lt : i < length (laid_events l) = omega (arith, ap length h, c.loop-event-test.true) in
-    let e = shown_more l i x lt (c.event-item.is ∙ ap (λ es. get_or es i x) h) in (
-      kept_then _ _ _ done line c.loop-event.invariant.0 c.push_event.ensures.pushed ∙ ap (λ x. kept (c.args.text.now ++ x)) (sym e),
-      omega (arith, ap length e, length-append done line, c.loop-event.invariant.1, c.push_event.ensures.short),
-    )
+    let e = shown_more l i x lt (c.event-item.is ∙ ap (λ es. get_or es i x) h) in
+    record {
+      pushed = kept_then _ _ _ done line c.loop-event.invariant.pushed c.push_event.ensures.pushed ∙ ap (λ x. kept (c.args.text.now ++ x)) (sym e);
+      short = omega (arith, ap length e, length-append done line, c.loop-event.invariant.short, c.push_event.ensures.short);
+    }
 
 pub returns : goal.returns
 returns c =
@@ -29,6 +30,6 @@ returns c =
     let all = ap length c.events-event-items.ensures.events in
     let e = shown_all l c.loop-event.event-index (omega (arith, all, c.loop-event-test.false, c.loop-event.auto.event-index-end)) in
     record {
-      pushed = c.loop-event.invariant.0 ∙ ap (λ x. kept (c.args.text.now ++ x)) e;
-      short = omega (arith, c.loop-event.invariant.1, ap length e, all, c.loop-event.auto.event-index-end, c.events-event-items.ensures.few);
+      pushed = c.loop-event.invariant.pushed ∙ ap (λ x. kept (c.args.text.now ++ x)) e;
+      short = omega (arith, c.loop-event.invariant.short, ap length e, all, c.loop-event.auto.event-index-end, c.events-event-items.ensures.few);
     }
