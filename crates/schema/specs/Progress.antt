@@ -9,7 +9,7 @@ use Rattle.items.specs.Asked.{passes}
 use Rattle.grammar.specs.declared.measure.Measure.{Measure}
 use Rattle.schema.specs.Bytes.{item_count, root_count}
 use Rattle.schema.specs.Reading.{state, tally_at, pattern_at, earlier, later, schema_of}
-use Rattle.schema.specs.Questions.{opening, made_at, closing_at, answered, verdict}
+use Rattle.schema.specs.Questions.{opening, asked_at, made_at, closing_at, answered, verdict}
 use Rattle.schema.specs.Plans.{plan_of}
 use Rattle.schema.specs.declared.progress.Progress.{Progress}
 
@@ -24,6 +24,11 @@ pub record Ends (b : List ℕ) (i : ℕ) : Type 0 where
   pub sized : Sized b
   pub within : i < item_count b
   pub waits : 0 < length (state b (suc i)).patterns
+
+-- item i is there, and passed questions 4 to 6 at scope s
+pub record Admitted (b : List ℕ) (s i : ℕ) : Type 0 where
+  pub within : i < item_count b
+  pub passed : asked_at b s i ≡ passes
 
 abbrev pub no_measure : Measure
 no_measure = record { items = 0; count = 0; length = 0 }

@@ -3,13 +3,12 @@
 ghost use Rattle.std.specs.Prelude.{◌≡◌, ℕ, suc, ◌<◌, ◌≤◌, List, OnOk};
 ghost use Rattle.questions.specs.Limits.{most_candidates, most_events};
 ghost use Rattle.grammar.specs.Measures.{measure_of};
-ghost use Rattle.items.specs.Asked.{passes};
 ghost use Rattle.schema.specs.Bytes.{item_count, root_count};
-ghost use Rattle.schema.specs.Questions.{asked_at, made_at, asks};
-ghost use Rattle.schema.specs.Progress.{Knows, KnowsMade, Counted, Holds};
+ghost use Rattle.schema.specs.Questions.{made_at, asks};
+ghost use Rattle.schema.specs.Progress.{Admitted, Knows, KnowsMade, Counted, Holds};
 
 use crate::ask::ask_sharing;
-use crate::measured::{Known, measure_of};
+use crate::measured::Known;
 use crate::plan::{Plan, Root};
 use crate::table::Table;
 use grammar::measure::product_capped;
@@ -59,23 +58,21 @@ impl Progress {
 
     /// The measure of what item `i` makes, which has passed questions 4 to 6: a pattern, a root's event, or else nothing.
     fn measure_made(&self, table: &Table, i: usize) -> Measure
-        requires within { i < item_count table.now }
+        requires admitted { Admitted table.now self.now.scope i }
         requires knows { Knows table.now self.now.scope self.now.known }
-        requires passed { asked_at table.now self.now.scope i ≡ passes }
         ensures { result ≡ measure_of self.now.scope (made_at table.now i) }
     {
         match table.item(i) {
-            Item::Root(_) => measure_of(table, self.scope, &self.known, i - 1).inside(),
+            Item::Root(_) => self.measure(table, i - 1).inside(),
             Item::Pick(_) | Item::Relate(_) | Item::AtMost(_) | Item::Unknown => Measure::nothing(),
-            _ => measure_of(table, self.scope, &self.known, i),
+            _ => self.measure(table, i),
         }
     }
 
     /// Counts item `i`, which has passed, and whose measure is `m`.
     fn settle(&mut self, table: &Table, i: usize, m: Measure)
-        requires within { i < item_count table.now }
+        requires admitted { Admitted table.now self.old.scope i }
         requires counted { Counted table.now i self.old }
-        requires passed { asked_at table.now self.old.scope i ≡ passes }
         requires measured { m ≡ measure_of self.old.scope (made_at table.now i) }
         requires count { m.count ≤ most_candidates }
         requires length { m.length ≤ most_events }

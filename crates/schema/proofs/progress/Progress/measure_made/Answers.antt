@@ -47,17 +47,17 @@ empty b i it is (inr (inr (inl h))) = sym (ap (λ x. made x (state b i).patterns
 empty b i it is (inr (inr (inr h))) = sym (ap (λ x. made x (state b i).patterns) (sym is ∙ h))
 
 pub overflow_sub-i : goal.overflow_sub-i
-overflow_sub-i c = omega (arith, (before c.args.table.now c.args.self.now.scope c.args.i c.in-Root.field-0 c.requires.passed c.in-Root.ensures.item c.item.ensures.sized c.requires.within).0)
+overflow_sub-i c = omega (arith, (before c.args.table.now c.args.self.now.scope c.args.i c.in-Root.field-0 c.requires.admitted.passed c.in-Root.ensures.item c.item.ensures.sized c.requires.admitted.within).0)
 
-pub measure_of-requires : goal.measure_of-requires
-measure_of-requires c = record {
-  ends = (before c.args.table.now c.args.self.now.scope c.args.i c.in-Root.field-0 c.requires.passed c.in-Root.ensures.item c.item.ensures.sized c.requires.within).1;
+pub measure-requires : goal.measure-requires
+measure-requires c = record {
+  ends = (before c.args.table.now c.args.self.now.scope c.args.i c.in-Root.field-0 c.requires.admitted.passed c.in-Root.ensures.item c.item.ensures.sized c.requires.admitted.within).1;
   knows = c.requires.knows;
 }
 
-pub measure_of-requires-in_default : goal.measure_of-requires-in_default
-measure_of-requires-in_default c = record {
-  ends = pattern_ends c.args.table.now c.args.self.now.scope c.args.i c.item.result c.requires.passed c.item.ensures.item c.item.ensures.sized c.requires.within
+pub measure-requires-in_default : goal.measure-requires-in_default
+measure-requires-in_default c = record {
+  ends = pattern_ends c.args.table.now c.args.self.now.scope c.args.i c.item.result c.requires.admitted.passed c.item.ensures.item c.item.ensures.sized c.requires.admitted.within
       c.in_default.not-Root c.in_default.not-Pick c.in_default.not-Relate c.in_default.not-AtMost c.in_default.not-Unknown;
   knows = c.requires.knows;
 }
@@ -67,9 +67,9 @@ unfolding made_at
 returns-in-Root c =
     let s = c.args.self.now.scope in
     let ps = (state c.args.table.now c.args.i).patterns in
-    let u = before c.args.table.now c.args.self.now.scope c.args.i c.in-Root.field-0 c.requires.passed c.in-Root.ensures.item c.item.ensures.sized c.requires.within in
+    let u = before c.args.table.now c.args.self.now.scope c.args.i c.in-Root.field-0 c.requires.admitted.passed c.in-Root.ensures.item c.item.ensures.sized c.requires.admitted.within in
     c.inside.ensures
-    ∙ (ap inside_measure (c.measure_of.ensures ∙ ap (measure_of s) u.2)
+    ∙ (ap inside_measure (c.measure.ensures ∙ ap (measure_of s) u.2)
     ∙ (inside_measures s c.in-Root.field-0 (top ps) ∙ ap (λ x. measure_of s (made x ps)) c.in-Root.ensures.item))
 
 pub returns-in-Pick : goal.returns-in-Pick
@@ -77,8 +77,8 @@ returns-in-Pick c = c.nothing.ensures ∙ ap (measure_of c.args.self.now.scope) 
 
 pub returns-in_default : goal.returns-in_default
 returns-in_default c =
-    c.measure_of-in_default.ensures
+    c.measure-in_default.ensures
     ∙ ap (measure_of c.args.self.now.scope)
     (sym (made_ends c.args.table.now c.args.i
-    (pattern_ends c.args.table.now c.args.self.now.scope c.args.i c.item.result c.requires.passed c.item.ensures.item c.item.ensures.sized c.requires.within
+    (pattern_ends c.args.table.now c.args.self.now.scope c.args.i c.item.result c.requires.admitted.passed c.item.ensures.item c.item.ensures.sized c.requires.admitted.within
     c.in_default.not-Root c.in_default.not-Pick c.in_default.not-Relate c.in_default.not-AtMost c.in_default.not-Unknown)))

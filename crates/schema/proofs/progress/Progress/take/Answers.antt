@@ -36,8 +36,8 @@ returns-in_err-ask_sharing-clause-answer c =
     let f = said_shared c.args.table.now c.args.i c.args.self.now c.requires.holds.counted _ _ c.in_err-ask_sharing.was c.item-item.result c.item-item.ensures.item c.ask_sharing.ensures in
     rw (x.1, x.2) (sym (asks_shared c.args.table.now c.args.self.now.scope c.args.i _ e f))
 
-pub measure_made-m-requires-clause-passed : goal.measure_made-m-requires-clause-passed
-measure_made-m-requires-clause-passed c = said_asked c.args.table.now c.args.i c.args.self.now c.requires.holds.counted _ _ c.in_ok-ask_item.was c.item-item.result c.argument.result c.item-item.ensures.item c.argument.ensures c.ask_item.ensures
+pub measure_made-m-requires-clause-admitted : goal.measure_made-m-requires-clause-admitted
+measure_made-m-requires-clause-admitted c = record { within = c.requires.within; passed = said_asked c.args.table.now c.args.i c.args.self.now c.requires.holds.counted _ _ c.in_ok-ask_item.was c.item-item.result c.argument.result c.item-item.ensures.item c.argument.ensures c.ask_item.ensures }
 
 pub returns-in_err-ask_measure-clause-answer : goal.returns-in_err-ask_measure-clause-answer
 returns-in_err-ask_measure-clause-answer c =
@@ -47,8 +47,8 @@ returns-in_err-ask_measure-clause-answer c =
     let h = said_sized c.args.table.now c.args.i c.args.self.now c.requires.holds.counted _ _ c.in_err-ask_measure.was c.measure_made-m.result c.measure_made-m.ensures c.ask_measure.ensures in
     rw (x.1, x.2) (sym (asks_sized c.args.table.now c.args.self.now.scope c.args.i e f ∙ h))
 
-pub settle-requires-clause-passed : goal.settle-requires-clause-passed
-settle-requires-clause-passed c = said_asked c.args.table.now c.args.i c.args.self.now c.requires.holds.counted _ _ c.in_ok-ask_item.was c.item-item.result c.argument.result c.item-item.ensures.item c.argument.ensures c.ask_item.ensures
+pub settle-requires-clause-admitted : goal.settle-requires-clause-admitted
+settle-requires-clause-admitted c = record { within = c.requires.within; passed = said_asked c.args.table.now c.args.i c.args.self.now c.requires.holds.counted _ _ c.in_ok-ask_item.was c.item-item.result c.argument.result c.item-item.ensures.item c.argument.ensures c.ask_item.ensures }
 
 pub settle-requires-clause-count : goal.settle-requires-clause-count
 settle-requires-clause-count c = (sized_none c.measure_made-m.result.count c.measure_made-m.result.length (sym c.ask_measure.ensures ∙ c.in_ok-ask_measure.was)).0
