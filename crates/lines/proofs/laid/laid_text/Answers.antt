@@ -1,22 +1,36 @@
-use Rattle.std.proofs.Common.{◌++◌, length, sym, ap, ◌∙◌, ap₂, arith}
+use Rattle.std.proofs.Common.{◌≡◌, ◌≤◌, Result, Ok, ◌++◌, length, sym, ap, ◌∙◌, ap₂, subst, arith}
+use Rattle.std.specs.Result.{OnOk}
 use Rattle.questions.specs.Numbers.{refusal_line}
 use Rattle.schema.specs.Told.{table_of}
+use Rattle.text.specs.Room.{text_room}
 use Rattle.text.proofs.Kept.{kept_whole}
 use Rattle.lines.specs.Card.{line_end}
 use Rattle.lines.specs.Laid.{number_lines}
 use Rattle.lines.proofs.Events.{laid_yes, laid_no}
 use Rattle.lines.proofs.laid.laid_text.Goals as goal
+use Rattle.lines.proofs.laid.laid_text.Goals.{in-Ok, in-Err}
 
-pub returns-in-Ok : goal.returns-in-Ok
-returns-in-Ok c =
-    let x = c.in-Ok.schema in
-    let o = c.args.number in
-    let h = c.in-Ok.ensures in
-    kept_whole _ _ (number_lines (table_of x) x.scope o) c.new-text.ensures c.push_number.ensures.pushed (omega (arith, c.push_number.ensures.short))
-    ∙ (ap₂ (λ b s. number_lines b s o) h.holds.0 h.holds.1 ∙ sym (laid_yes c.args.table.now c.args.scope x.total o (sym h.answer)))
+on_yes : {E : Type 0} (r : Result (Unit {0}) E) (u : Unit {0}) (P : Type 0) → r ≡ Ok u → OnOk r P → P
+on_yes r u P e h = subst (λ x. OnOk x P) e h
 
-pub returns-in-Ok-write_refusal : goal.returns-in-Ok-write_refusal
-returns-in-Ok-write_refusal c =
-    let r = c.in-Err.refusal in
-    kept_whole _ _ (refusal_line r ++ line_end) c.new-text.ensures (c.in-Ok-write_refusal.ensures.written (omega (arith, ap length c.new-text.ensures))) (omega (arith, c.in-Ok-write_refusal.ensures.short))
-    ∙ sym (laid_no c.args.table.now c.args.scope c.args.number r (sym c.in-Err.ensures.answer))
+pub returns : goal.returns
+returns c =
+    let empty : length c.new-page.result ≤ text_room = omega (arith, ap length c.new-page.ensures) in
+    elim c.match-of.branch [
+      | in-Ok w ↦ (
+          let x = w.in-Ok.schema in
+          let o = c.args.number in
+          let h = w.in-Ok.ensures in
+          let yes = sym w.written-is ∙ c.in-Ok-written.is in
+          w.page-is
+          ∙ (kept_whole _ _ (number_lines (table_of x) x.scope o) c.new-page.ensures (on_yes _ _ _ yes w.write_number-written.ensures.written empty) (omega (arith, on_yes _ _ _ yes w.write_number-written.ensures.short))
+          ∙ (ap₂ (λ b s. number_lines b s o) h.holds.0 h.holds.1 ∙ sym (laid_yes c.args.table.now c.args.scope x.total o (sym h.answer))))
+          )
+      | in-Err w ↦ (
+          let r = w.in-Err.refusal in
+          let yes = sym w.written-is ∙ c.in-Ok-written.is in
+          w.page-is
+          ∙ (kept_whole _ _ (refusal_line r ++ line_end) c.new-page.ensures (on_yes _ _ _ yes w.write_refusal-written.ensures.written empty) (omega (arith, on_yes _ _ _ yes w.write_refusal-written.ensures.short))
+          ∙ sym (laid_no c.args.table.now c.args.scope c.args.number r (sym w.in-Err.ensures.answer)))
+          )
+    ]
