@@ -26,12 +26,8 @@ pub kept_then : (t u v xs ys : List ℕ) → u ≡ kept (t ++ xs) → v ≡ kept
 kept_then t u v xs ys p q = q ∙ (ap (λ l. kept (l ++ ys)) p ∙ (kept_kept (t ++ xs) ys ∙ ap kept (append_assoc t xs ys)))
 
 -- what is added to no text, and fits, is all there is
-pub kept_whole : (t u xs : List ℕ) → t ≡ [] → u ≡ kept (t ++ xs) → length xs ≤ text_room → u ≡ xs
-kept_whole t u xs e p h = p ∙ (ap (λ l. kept (l ++ xs)) e ∙ kept_all xs h)
-
--- a number under another name
-pub kept_number : (t u : List ℕ) (m n : ℕ) → m ≡ n → u ≡ kept (t ++ decimal m) → u ≡ kept (t ++ decimal n)
-kept_number t u m n e p = p ∙ ap (λ k. kept (t ++ decimal k)) e
+pub kept_whole : (t u xs : List ℕ) → t ≡ [] → (length t ≤ text_room → u ≡ kept (t ++ xs)) → length xs ≤ text_room → u ≡ xs
+kept_whole t u xs e p h = p (omega (arith, ap length e)) ∙ (ap (λ l. kept (l ++ xs)) e ∙ kept_all xs h)
 
 -- what is kept fits
 pub kept_fits : (t xs : List ℕ) → t ≡ kept xs → length t ≤ text_room

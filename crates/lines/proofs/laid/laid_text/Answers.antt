@@ -1,8 +1,7 @@
-use Rattle.std.proofs.Common.{◌≡◌, ◌≤◌, Result, Ok, ◌++◌, length, sym, ap, ◌∙◌, ap₂, subst, arith}
+use Rattle.std.proofs.Common.{◌≡◌, Result, Ok, ◌++◌, sym, ◌∙◌, ap₂, subst, arith}
 use Rattle.std.specs.Result.{OnOk}
 use Rattle.questions.specs.Numbers.{refusal_line}
 use Rattle.schema.specs.Told.{table_of}
-use Rattle.text.specs.Room.{text_room}
 use Rattle.text.proofs.Kept.{kept_whole}
 use Rattle.lines.specs.Card.{line_end}
 use Rattle.lines.specs.Laid.{number_lines}
@@ -15,7 +14,6 @@ on_yes r u P e h = subst (λ x. OnOk x P) e h
 
 pub returns : goal.returns
 returns c =
-    let empty : length c.new-page.result ≤ text_room = omega (arith, ap length c.new-page.ensures) in
     elim c.match-of.branch [
       | in-Ok w ↦ (
           let x = w.in-Ok.schema in
@@ -23,14 +21,14 @@ returns c =
           let h = w.in-Ok.ensures in
           let yes = sym w.written-is ∙ c.in-Ok-written.is in
           w.page-is
-          ∙ (kept_whole _ _ (number_lines (table_of x) x.scope o) c.new-page.ensures (on_yes _ _ _ yes w.write_number-written.ensures.written empty) (omega (arith, on_yes _ _ _ yes w.write_number-written.ensures.short))
+          ∙ (kept_whole _ _ (number_lines (table_of x) x.scope o) c.new-page.ensures (on_yes _ _ _ yes w.write_number-written.ensures.written) (omega (arith, on_yes _ _ _ yes w.write_number-written.ensures.short))
           ∙ (ap₂ (λ b s. number_lines b s o) h.holds.0 h.holds.1 ∙ sym (laid_yes c.args.table.now c.args.scope x.total o (sym h.answer))))
           )
       | in-Err w ↦ (
           let r = w.in-Err.refusal in
           let yes = sym w.written-is ∙ c.in-Ok-written.is in
           w.page-is
-          ∙ (kept_whole _ _ (refusal_line r ++ line_end) c.new-page.ensures (on_yes _ _ _ yes w.write_refusal-written.ensures.written empty) (omega (arith, on_yes _ _ _ yes w.write_refusal-written.ensures.short))
+          ∙ (kept_whole _ _ (refusal_line r ++ line_end) c.new-page.ensures (on_yes _ _ _ yes w.write_refusal-written.ensures.written) (omega (arith, on_yes _ _ _ yes w.write_refusal-written.ensures.short))
           ∙ sym (laid_no c.args.table.now c.args.scope c.args.number r (sym w.in-Err.ensures.answer)))
           )
     ]
