@@ -6,7 +6,6 @@ ghost use Rattle.text.proofs.Kept.{kept_then, kept_fits, kept_text};
 
 use std::alloc::AllocError;
 use std::convert::Infallible;
-use std::fmt::Write;
 use text::Text;
 
 /// What words are added to.
@@ -68,6 +67,6 @@ impl Page for String {
     }
 
     fn add_number(&mut self, n: u64) -> Result<(), AllocError> {
-        write!(self, "{n}").map_err(|_| AllocError)
+        write!(self, "{n}")
     }
 }
