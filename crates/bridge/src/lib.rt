@@ -13,6 +13,8 @@ use laying::lay;
 use questions::limits::NO_ITEM;
 use schema::{Checked, Plan, check};
 
+// Answers are numbers, since nothing else crosses to C: a refusal is packed into one, and a refused table lays 0 events.
+
 /// The total of a table at a scope; where the table is refused, 2^32 times the question's number, and the item added.
 pub fn mandolkhui_check(table: &[u8], scope: u8) -> u64
     ensures { result ≡ packed (verdict table.now scope) }

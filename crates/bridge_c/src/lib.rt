@@ -1,4 +1,5 @@
-//! The calls of `bridge` for programs in Rust or C, such as the benchmark.
+//! The calls of `bridge` for programs in Rust or C, such as the benchmark. They stand here a second time, because a crate is a library or a
+//! static library, and C calls only the latter.
 
 #![tactic(auto)]
 

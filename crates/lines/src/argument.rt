@@ -7,6 +7,7 @@ ghost use Rattle.lines.specs.Argument.{scope_said, number_more, number_said};
 const MOST_DIGITS: usize = 10;
 
 /// The scope that an argument says: one digit says itself, and anything else 0, which question 3 refuses.
+// No `Option`: that an argument says no scope is for question 3 to say, after questions 1 and 2.
 pub fn scope_said(argument: &[u8]) -> u8
     ensures { result ≡ scope_said argument.now }
 {
