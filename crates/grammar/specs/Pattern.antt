@@ -1,5 +1,5 @@
 -- Patterns as data: how many choices one has at a scope, how many events it lays at most, how many items write it. Assumes nothing.
-use Rattle.std.specs.Prelude.{ℕ, zero, suc, ◌+◌, ◌-◌, ◌*◌, ◌^◌, max, cond, ◌==◌}
+use Rattle.std.specs.Prelude.{ℕ, zero, suc, ◌+◌, ◌-◌, ◌*◌, ◌^◌, max, if◌then◌else◌, ◌==◌}
 use Rattle.questions.specs.Limits.{scope_mark}
 use Rattle.grammar.specs.declared.part.Order.{Order}
 
@@ -18,7 +18,7 @@ pub data Pattern : Type 0 where
 
 -- the most of a repetition at scope s
 abbrev pub most : ℕ → ℕ → ℕ
-most s b = cond (b == scope_mark) s b
+most s b = if b == scope_mark then s else b
 
 -- c^a + c^(a+1) + .., n powers in all
 abbrev pub powers : ℕ → ℕ → ℕ → ℕ

@@ -1,5 +1,5 @@
 -- The questions that are asked of numbers alone, and the first of them that fails. Assumes nothing.
-use Rattle.std.specs.Prelude.{ℕ, Bool, true, false, cond, ◌&&◌, ◌||◌, Ok, Err, Result, ◌==◌, nat_le, nat_lt}
+use Rattle.std.specs.Prelude.{ℕ, Bool, true, false, if◌then◌else◌, ◌&&◌, ◌||◌, Ok, Err, Result, ◌==◌, nat_le, nat_lt}
 use Rattle.questions.specs.Limits.{most_type, most_times, scope_mark, most_candidates, most_events}
 use Rattle.questions.specs.declared.question.Question.{Question}
 use Rattle.questions.specs.declared.question.Question.TheVariants.{Kind, Argument, Takes, Count, Length, Whole, Total, Events}
@@ -67,15 +67,22 @@ finds t (AtMost n) = t.closed == t.roots && t.picks == 1
 finds t Unknown = false
 
 abbrev pub asked : ℕ → Tally → Item → ℕ → Answer
-asked s t it a = cond (known it) (cond (suits s t.roots it a) (cond (finds t it) passes (Err Takes)) (Err Argument)) (Err Kind)
+asked s t it a =
+    if known it then
+      (if suits s t.roots it a then (if finds t it then passes else Err Takes)
+       else Err Argument)
+    else Err Kind
 
 -- Questions 8 and 9, of a count and a length.
 
 abbrev pub sized : ℕ → ℕ → Answer
-sized n l = cond (nat_le n most_candidates) (cond (nat_le l most_events) passes (Err Length)) (Err Count)
+sized n l = if nat_le n most_candidates then (if nat_le l most_events then passes else Err Length) else Err Count
 
 -- Questions 10 to 12, of a total and a sum of lengths.
 
 abbrev pub closing : Tally → ℕ → ℕ → Answer
 closing t n l =
-    cond (t.closed == t.roots && (t.patterns == 0 && t.picks == 0)) (cond (nat_le n most_candidates) (cond (nat_le l most_events) passes (Err Events)) (Err Total)) (Err Whole)
+    if t.closed == t.roots && (t.patterns == 0 && t.picks == 0) then
+      (if nat_le n most_candidates then (if nat_le l most_events then passes else Err Events)
+       else Err Total)
+    else Err Whole

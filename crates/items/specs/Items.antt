@@ -1,5 +1,5 @@
 -- The items of a table: what a kind and an argument say, and what kind and argument write an item. Assumes nothing.
-use Rattle.std.specs.Prelude.{ℕ, ◌+◌, ◌*◌, ◌/◌, ◌%◌, cond, ◌==◌}
+use Rattle.std.specs.Prelude.{ℕ, ◌+◌, ◌*◌, ◌/◌, ◌%◌, if◌then◌else◌, ◌==◌}
 use Rattle.grammar.specs.declared.part.Order.TheVariants.{InOrder, AsSet}
 use Rattle.grammar.specs.declared.part.Relation.TheVariants.{Share, Coordinate, AsMany, NoMore, FewerBefore}
 use Rattle.grammar.specs.declared.part.Selection.{Selection}
@@ -13,10 +13,23 @@ selection a = record { root = a / 256; event = a % 256 }
 -- the item of a kind and an argument
 abbrev pub item_of : ℕ → ℕ → Item
 item_of k a =
-    cond (k == 0) Nothing (cond (k == 1) (Atom a) (cond (k == 2) (Event a) (cond (k == 3) (Both InOrder) (cond (k == 4) (Both AsSet)
-    (cond (k == 5) Either (cond (k == 6) (Repeat InOrder (a % 256) (a / 256)) (cond (k == 7) (Repeat AsSet (a % 256) (a / 256))
-    (cond (k == 8) (Root a) (cond (k == 9) (Pick (selection a)) (cond (k == 10) (Relate Share) (cond (k == 11) (Relate Coordinate)
-    (cond (k == 12) (Relate AsMany) (cond (k == 13) (Relate NoMore) (cond (k == 14) (AtMost a) (cond (k == 15) (Relate FewerBefore) Unknown)))))))))))))))
+    if k == 0 then Nothing
+    else if k == 1 then Atom a
+    else if k == 2 then Event a
+    else if k == 3 then Both InOrder
+    else if k == 4 then Both AsSet
+    else if k == 5 then Either
+    else if k == 6 then Repeat InOrder (a % 256) (a / 256)
+    else if k == 7 then Repeat AsSet (a % 256) (a / 256)
+    else if k == 8 then Root a
+    else if k == 9 then Pick (selection a)
+    else if k == 10 then Relate Share
+    else if k == 11 then Relate Coordinate
+    else if k == 12 then Relate AsMany
+    else if k == 13 then Relate NoMore
+    else if k == 14 then AtMost a
+    else if k == 15 then Relate FewerBefore
+    else Unknown
 
 -- the kind and the argument that write an item
 abbrev pub kind_of : Item → ℕ

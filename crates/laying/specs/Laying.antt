@@ -1,5 +1,5 @@
 -- The laid beginning of a candidate of a table. Assumes nothing.
-use Rattle.std.specs.Prelude.{ℕ, Bool, cond, ◌&&◌, List, length, take, Some, None, Option, nat_le, nat_lt}
+use Rattle.std.specs.Prelude.{ℕ, Bool, if◌then◌else◌, ◌&&◌, List, length, take, Some, None, Option, nat_le, nat_lt}
 use Rattle.grammar.specs.Schema.{candidates}
 use Rattle.numbering.specs.Choice.{Choice}
 use Rattle.numbering.specs.Numbers.{choices_of}
@@ -16,4 +16,4 @@ has_beginning b s n j = nat_lt n (candidates s (schema_of b).roots) && (nat_le 1
 
 -- what they lay, where there are so many
 unfoldable pub laid_at : List ℕ → ℕ → ℕ → ℕ → Option Beginning
-laid_at b s n j = cond (has_beginning b s n j) (Some (beginning_of (first_choices b s n j))) None
+laid_at b s n j = if has_beginning b s n j then Some (beginning_of (first_choices b s n j)) else None

@@ -1,5 +1,5 @@
 -- What laying a choice adds to what is laid. Assumes nothing.
-use Rattle.std.specs.Prelude.{◌≡◌, ℕ, suc, ◌+◌, ◌<◌, ◌≤◌, true, cond, List, [], ◌∷◌, ◌++◌, map, take, Option, bit_or, slice_index}
+use Rattle.std.specs.Prelude.{◌≡◌, ℕ, suc, ◌+◌, ◌<◌, ◌≤◌, true, if◌then◌else◌, List, [], ◌∷◌, ◌++◌, map, take, Option, bit_or, slice_index}
 use Rattle.rows.specs.Bits.{bit, mask}
 use Rattle.grammar.specs.declared.part.Order.{Order}
 use Rattle.grammar.specs.declared.part.Order.TheVariants.{InOrder, AsSet}
@@ -46,7 +46,7 @@ pub record Pushed (t : ℕ) (p : Option ℕ) (old new : Laid) : Type 0 where
 
 -- the event at place n, when each event of the row x precedes those of the row y too
 abbrev pub preceding_at : ℕ → ℕ → ℕ → LaidEvent → LaidEvent
-preceding_at x y n e = record e { precedes = bit_or e.precedes (cond (bit x n) y 0) }
+preceding_at x y n e = record e { precedes = bit_or e.precedes (if bit x n then y else 0) }
 
 -- the events from place n on, likewise
 abbrev pub preceding : ℕ → ℕ → ℕ → List LaidEvent → List LaidEvent

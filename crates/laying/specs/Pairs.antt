@@ -1,5 +1,5 @@
 -- Relations between places as lists of pairs, and as rows of bits. Assumes nothing.
-use Rattle.std.specs.Prelude.{◌≡◌, ℕ, ◌^◌, cond, ◌⊎◌, List, [], ◌∷◌, ◌++◌, ◌==◌, bit_or}
+use Rattle.std.specs.Prelude.{◌≡◌, ℕ, ◌^◌, if◌then◌else◌, ◌⊎◌, List, [], ◌∷◌, ◌++◌, ◌==◌, bit_or}
 
 abbrev pub Pairs : Type 0
 Pairs = List (ℕ × ℕ)
@@ -31,4 +31,4 @@ all_pairs (x ∷ xs) ys = with_each x ys ++ all_pairs xs ys
 -- row a: bit b is set exactly where a is paired with b
 unfoldable pub row : Pairs → ℕ → ℕ
 row [] a = 0
-row (p ∷ ps) a = bit_or (cond (p.0 == a) (2 ^ p.1) 0) (row ps a)
+row (p ∷ ps) a = bit_or (if p.0 == a then 2 ^ p.1 else 0) (row ps a)

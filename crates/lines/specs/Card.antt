@@ -1,5 +1,5 @@
 -- The card of a table. Assumes nothing.
-use Rattle.std.specs.Prelude.{ℕ, ◌+◌, cond, List, [], ◌∷◌, ◌++◌, Ok, Err, codes, decimal, Result, ◌==◌}
+use Rattle.std.specs.Prelude.{ℕ, ◌+◌, if◌then◌else◌, List, [], ◌∷◌, ◌++◌, Ok, Err, codes, decimal, Result, ◌==◌}
 use Rattle.std.specs.List.{flat_map}
 use Rattle.questions.specs.Numbers.{refusal_line}
 use Rattle.questions.specs.declared.refusal.Refusal.{Refusal}
@@ -39,7 +39,7 @@ card b s = answer_lines s (schema_of b).roots (verdict b s)
 -- The same by the entries of a plan; an entry of length 0 is no root.
 
 abbrev pub entry_line : Root → List ℕ
-entry_line r = cond (r.length == 0) [] (root_line r.event r.count r.length)
+entry_line r = if r.length == 0 then [] else root_line r.event r.count r.length
 
 abbrev pub entry_lines : List Root → List ℕ
 entry_lines = flat_map entry_line

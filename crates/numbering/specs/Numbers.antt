@@ -1,5 +1,5 @@
 -- The choice of a number, and the number of a choice. Assumes nothing.
-use Rattle.std.specs.Prelude.{ℕ, zero, suc, ◌+◌, ◌-◌, ◌*◌, ◌/◌, ◌%◌, ◌^◌, Bool, true, false, cond, List, [], ◌∷◌, nat_lt}
+use Rattle.std.specs.Prelude.{ℕ, zero, suc, ◌+◌, ◌-◌, ◌*◌, ◌/◌, ◌%◌, ◌^◌, Bool, true, false, if◌then◌else◌, List, [], ◌∷◌, nat_lt}
 use Rattle.grammar.specs.Pattern.{Pattern, nothing, atom, event, both, either, repeat, most, powers, count}
 use Rattle.grammar.specs.Schema.{Rooted, candidates}
 use Rattle.grammar.specs.declared.part.Order.{Order}
@@ -71,7 +71,7 @@ number_of s nothing x = 0
 number_of s (atom t) x = 0
 number_of s (event t p) x = number_of s p (first x)
 number_of s (both o p q) x = number_of s p (first x) * count s q + number_of s q (second x)
-number_of s (either p q) x = cond (is_earlier x) (number_of s p (first x)) (count s p + number_of s q (first x))
+number_of s (either p q) x = if is_earlier x then number_of s p (first x) else count s p + number_of s q (first x)
 number_of s (repeat o a b p) x = powers (count s p) (occurring x - a) a + times_number (number_of s p) (count s p) (occurring x) x
 
 abbrev pub number_of_choices : ℕ → List Rooted → List Choice → ℕ

@@ -1,5 +1,5 @@
 -- What the calls that take a number apart give. Assumes nothing.
-use Rattle.std.specs.Prelude.{ℕ, ◌-◌, ◌^◌, min, cond, nat_lt}
+use Rattle.std.specs.Prelude.{ℕ, ◌-◌, ◌^◌, min, if◌then◌else◌, nat_lt}
 use Rattle.numbering.specs.Numbers.{occurrences}
 use Rattle.numbering.specs.declared.split.Taken.{Taken}
 use Rattle.numbering.specs.declared.split.Taken.TheVariants.{Earlier, Later}
@@ -7,7 +7,7 @@ use Rattle.numbering.specs.declared.split.Repeated.{Repeated}
 
 -- the side of an alternative, whose earlier pattern has c choices, and the number there
 abbrev pub side_at : ℕ → ℕ → Taken
-side_at c n = cond (nat_lt n c) (Earlier n) (Later (n - c))
+side_at c n = if nat_lt n c then Earlier n else Later (n - c)
 
 -- a number of choices, as far as one past the largest number that 32 bits hold
 abbrev pub power_capped : ℕ → ℕ

@@ -1,5 +1,5 @@
 -- The questions of a table, in order, and what a check answers. Assumes nothing.
-use Rattle.std.specs.Prelude.{ℕ, zero, suc, ◌+◌, ◌*◌, Bool, true, false, cond, not, ◌&&◌, List, length, Some, None, Ok, Err, Option, Result, ◌==◌, nat_le}
+use Rattle.std.specs.Prelude.{ℕ, zero, suc, ◌+◌, ◌*◌, Bool, true, false, if◌then◌else◌, not, ◌&&◌, List, length, Some, None, Ok, Err, Option, Result, ◌==◌, nat_le}
 use Rattle.questions.specs.Limits.{most_items, most_roots, most_scope}
 use Rattle.questions.specs.declared.question.Question.TheVariants.{Bytes, Sizes, Scope, Sharing}
 use Rattle.questions.specs.declared.refusal.Refusal.{Refusal}
@@ -24,7 +24,11 @@ abbrev pub sizes_fit : List ℕ → Bool
 sizes_fit b = (nat_le 1 (item_count b) && nat_le (item_count b) most_items) && (nat_le 1 (root_count b) && nat_le (root_count b) most_roots)
 
 abbrev pub opening : List ℕ → ℕ → Answer
-opening b s = cond (bytes_fit b) (cond (sizes_fit b) (cond (nat_le 1 s && nat_le s most_scope) passes (Err Scope)) (Err Sizes)) (Err Bytes)
+opening b s =
+    if bytes_fit b then
+      (if sizes_fit b then (if nat_le 1 s && nat_le s most_scope then passes else Err Scope)
+       else Err Sizes)
+    else Err Bytes
 
 -- Question 7, of an item on the picks x and y.
 
@@ -45,7 +49,7 @@ encloses Unknown t = false
 -- is there one among the first n items?
 abbrev pub enclosed : List ℕ → ℕ → ℕ → Bool
 enclosed b t zero = false
-enclosed b t (suc n) = cond (encloses (item_at b n) t) true (enclosed b t n)
+enclosed b t (suc n) = if encloses (item_at b n) t then true else enclosed b t n
 
 -- one type in two roots, which no item of the table encloses
 abbrev pub shares : List ℕ → Selection → Selection → Bool
@@ -60,7 +64,7 @@ shared b Either x y = passes
 shared b (Repeat o l m) x y = passes
 shared b (Root t) x y = passes
 shared b (Pick z) x y = passes
-shared b (Relate Share) x y = cond (shares b x y) passes (Err Sharing)
+shared b (Relate Share) x y = if shares b x y then passes else Err Sharing
 shared b (Relate Coordinate) x y = passes
 shared b (Relate AsMany) x y = passes
 shared b (Relate NoMore) x y = passes

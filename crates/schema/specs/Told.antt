@@ -1,5 +1,5 @@
 -- What a check tells, and what a checked table tells when asked. Assumes nothing.
-use Rattle.std.specs.Prelude.{◌≡◌, ℕ, cond, List, take, Ok, Err, Result, nat_lt, slice_index_or}
+use Rattle.std.specs.Prelude.{◌≡◌, ℕ, if◌then◌else◌, List, take, Ok, Err, Result, nat_lt, slice_index_or}
 use Rattle.grammar.specs.Measures.{measure_of}
 use Rattle.grammar.specs.declared.measure.Measure.{Measure}
 use Rattle.items.specs.declared.item.Item.{Item}
@@ -29,11 +29,11 @@ HoldsTable (Err e) b s = Unit {0}
 
 -- item i of a table; past the last, an unknown one
 abbrev pub item_found : List ℕ → ℕ → Item
-item_found b i = cond (nat_lt i (item_count b)) (item_at b i) Unknown
+item_found b i = if nat_lt i (item_count b) then item_at b i else Unknown
 
 -- the measure of what item i makes; past the last, all zero
 abbrev pub measure_found : List ℕ → ℕ → ℕ → Measure
-measure_found b s i = cond (nat_lt i (item_count b)) (measure_of s (made_at b i)) no_measure
+measure_found b s i = if nat_lt i (item_count b) then measure_of s (made_at b i) else no_measure
 
 -- entry k of the plan; past the last, all zero
 abbrev pub root_found : List ℕ → ℕ → ℕ → Root
