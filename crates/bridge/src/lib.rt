@@ -39,7 +39,8 @@ fn events_at(schema: &Checked, number: u32) -> u64
 
 /// Lays the candidates from `first` on and below `last`, one after another, and tells how many events that were; 0 for a refused table.
 pub fn mandolkhui_lay(table: &[u8], scope: u8, first: u32, last: u32) -> u64
-    ensures { result ≡ told_events (verdict table.now scope) (events_from table.now scope first (last - first)) }
+    ensures { result
+        ≡ told_events (verdict table.now scope) (events_from table.now scope first (last - first)) }
 {
     let Ok(schema) = Checked::of(table, scope) else {
         return 0;

@@ -19,7 +19,8 @@ pub extern "C" fn mandolkhui_check(table: &[u8], scope: u8) -> u64
 /// Lays the candidates from `first` on and below `last`, one after another, and tells how many events that were; 0 for a refused table.
 #[unsafe(no_mangle)]
 pub extern "C" fn mandolkhui_lay(table: &[u8], scope: u8, first: u32, last: u32) -> u64
-    ensures { result ≡ told_events (verdict table.now scope) (events_from table.now scope first (last - first)) }
+    ensures { result
+        ≡ told_events (verdict table.now scope) (events_from table.now scope first (last - first)) }
 {
     bridge::mandolkhui_lay(table, scope, first, last)
 }

@@ -40,7 +40,8 @@ fn lay_root(schema: &Checked, root: Root, number: u32, laid: &mut Laid)
 
 /// Lays the first roots of a candidate; none where there is no such candidate or not as many roots, or no root is asked for.
 pub fn lay(schema: &Checked, number: u32, roots: usize) -> Option<Laid>
-    ensures answer { option_map shown result ≡ laid_at (table_of schema.now) schema.now.scope number roots }
+    ensures answer { option_map shown result
+        ≡ laid_at (table_of schema.now) schema.now.scope number roots }
     ensures numbers { (PatternsNumbered) × (RootsNumbered) }
     ensures laws { LayingLaws }
 {

@@ -32,7 +32,8 @@ pub(crate) fn lay_pattern(
 ) -> Row
     requires layable { Layable schema.now i number }
     requires room { laid.old.len + longest schema.now i ≤ most_events }
-    ensures { LaysTop around (choice_at schema.now i number) (longest schema.now i) laid.old laid.new result }
+    ensures { LaysTop around (choice_at schema.now i number) (longest schema.now i)
+        laid.old laid.new result }
 {
     match schema.item(i) {
         Item::Nothing => Row::none(),
@@ -74,7 +75,8 @@ pub(crate) fn lay_pattern(
 fn lay_run(schema: &Checked, i: usize, run: Run, around: Option<u8>, laid: &mut Laid) -> Row
     requires runs { LayableRun schema.now i run }
     requires room { laid.old.len + longest_run schema.now i run ≤ most_events }
-    ensures { LaysTop around (run_choice schema.now i run) (longest_run schema.now i run) laid.old laid.new result }
+    ensures { LaysTop around (run_choice schema.now i run) (longest_run schema.now i run)
+        laid.old laid.new result }
 {
     if run.left.times == 0 {
         return Row::none();

@@ -26,8 +26,10 @@ fn write_around<P: Page>(page: &mut P, around: Option<u8>) -> Result<(), P::Erro
 
 /// Writes the line of an event.
 fn write_event<P: Page>(page: &mut P, event: LaidEvent) -> Result<(), P::Error>
-    ensures written { OnOk result (P.adds page.old (event_line event.event event.around event.precedes) page.new) }
-    ensures short { OnOk result (length (event_line event.event event.around event.precedes) ≤ most_line) }
+    ensures written { OnOk result
+        (P.adds page.old (event_line event.event event.around event.precedes) page.new) }
+    ensures short { OnOk result
+        (length (event_line event.event event.around event.precedes) ≤ most_line) }
 {
     page.add_number(u64::from(event.event))?;
     page.add(" ")?;
@@ -40,7 +42,8 @@ fn write_event<P: Page>(page: &mut P, event: LaidEvent) -> Result<(), P::Error>
 /// Writes the lines of all events.
 fn write_events<P: Page>(page: &mut P, laid: &Laid) -> Result<(), P::Error>
     ensures written { OnOk result (P.adds page.old (event_lines (shown laid.now)) page.new) }
-    ensures short { OnOk result (length (event_lines (shown laid.now)) ≤ most_line * most_events) }
+    ensures short { OnOk result
+        (length (event_lines (shown laid.now)) ≤ most_line * most_events) }
 {
     for event in laid.events() {
         write_event(page, *event)?;
@@ -54,8 +57,10 @@ fn write_number<P: Page>(
     schema: &Checked,
     number: Option<u32>,
 ) -> Result<(), P::Error>
-    ensures written { OnOk result (P.adds page.old (number_lines (table_of schema.now) schema.now.scope number) page.new) }
-    ensures short { OnOk result (length (number_lines (table_of schema.now) schema.now.scope number) ≤ most_line * most_events) }
+    ensures written { OnOk result
+        (P.adds page.old (number_lines (table_of schema.now) schema.now.scope number) page.new) }
+    ensures short { OnOk result
+        (length (number_lines (table_of schema.now) schema.now.scope number) ≤ most_line * most_events) }
 {
     match number.and_then(|number| lay(schema, number, schema.roots())) {
         Some(laid) => write_events(page, &laid),

@@ -26,7 +26,8 @@ pub(crate) trait Page {
 
     ghost adds_nothing: { (p : Self) → adds p [] p };
 
-    ghost adds_append: { (p q r : Self) (xs ys : List ℕ) → adds p xs q → adds q ys r → adds p (xs ++ ys) r };
+    ghost adds_append: { (p q r : Self) (xs ys : List ℕ)
+        → adds p xs q → adds q ys r → adds p (xs ++ ys) r };
 }
 
 /// What has no room is left out, so nothing fails.
@@ -37,7 +38,8 @@ impl Page for Text {
 
     ghost adds_nothing = { kept_text };
 
-    ghost adds_append = { λ p q r xs ys h k fits. kept_then p q r xs ys (h fits) (k (kept_fits q (p ++ xs) (h fits))) };
+    ghost adds_append = { λ p q r xs ys h k fits.
+        kept_then p q r xs ys (h fits) (k (kept_fits q (p ++ xs) (h fits))) };
 
     fn add(&mut self, word: &str) -> Result<(), Infallible> {
         self.push_all(word.as_bytes());
@@ -60,7 +62,8 @@ impl Page for String {
 
     ghost adds_nothing = { λ p. sym (append-nil (string_bytes p)) };
 
-    ghost adds_append = { λ p q r xs ys h k. k ∙ (ap (λ l. l ++ ys) h ∙ append_assoc (string_bytes p) xs ys) };
+    ghost adds_append = { λ p q r xs ys h k.
+        k ∙ (ap (λ l. l ++ ys) h ∙ append_assoc (string_bytes p) xs ys) };
 
     fn add(&mut self, word: &str) -> Result<(), AllocError> {
         self.push_str(word)

@@ -26,8 +26,8 @@ sizes_fit b = (nat_le 1 (item_count b) && nat_le (item_count b) most_items) && (
 abbrev pub opening : List ℕ → ℕ → Answer
 opening b s =
     if bytes_fit b then
-      (if sizes_fit b then (if nat_le 1 s && nat_le s most_scope then passes else Err Scope)
-       else Err Sizes)
+    (if sizes_fit b then (if nat_le 1 s && nat_le s most_scope then passes else Err Scope)
+    else Err Sizes)
     else Err Bytes
 
 -- Question 7, of an item on the picks x and y.

@@ -118,7 +118,9 @@ impl Progress {
         ensures answer { result ≡ asks table.now self.old.scope i }
         ensures scope { OnOk result (self.new.scope ≡ self.old.scope) }
         ensures goes { OnOk result (Holds table.now (suc i) self.new) }
-        ensures made { OnOk result (KnowsMade table.now self.old.scope self.old.known → KnowsMade table.now self.new.scope self.new.known) }
+        ensures made { OnOk result
+            (KnowsMade table.now self.old.scope self.old.known
+            → KnowsMade table.now self.new.scope self.new.known) }
     {
         let item = table.item(i);
         ask_item(self.scope, self.tally, item, table.argument(i))?;
