@@ -244,9 +244,9 @@ pub laid_empty : {p : Option ℕ} {l : Laid} {r : ℕ} → r ≡ 0 → LaysTop p
 unfolding tops
 laid_empty {p} {l} e = record { lays = lays_empty p l; tops = e; length = omega arith }
 
--- where the top events of the first of two parts lie
-pub part_places : {p q : Option ℕ} {x y : Choice} {m n A B : ℕ} {old mid end : Laid} → LaysTop p x m old mid A → LaysTop q y n mid end B → (old.len ≤ mid.len) × (mid.len ≤ end.len)
-part_places u v = (omega (arith, u.lays.len), omega (arith, v.lays.len))
+-- where the top events of a part lie
+pub part_after : {p : Option ℕ} {x : Choice} {m A : ℕ} {old new : Laid} → LaysTop p x m old new A → old.len ≤ new.len
+part_after u = omega (arith, u.lays.len)
 
 pub part_between : {p : Option ℕ} {x : Choice} {m A : ℕ} {old new : Laid} → LaysTop p x m old new A → Between old.len new.len A
 part_between {x = x} {A = A} {old = old} {new = new} u = tops_between old.len new.len x A u.tops u.lays.len

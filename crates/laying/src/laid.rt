@@ -48,7 +48,8 @@ impl Laid {
     /// Nothing is laid.
     pub(crate) fn nothing() -> Laid
         ensures shown { shown result ≡ beginning_of [] }
-        ensures none { (result.len ≡ 0) × (result.roots ≡ 0) }
+        ensures events { result.len ≡ 0 }
+        ensures roots { result.roots ≡ 0 }
     {
         Laid {
             events: [LaidEvent::new(0, None); EVENT_PLACES],
@@ -107,7 +108,8 @@ impl Laid {
         earlier: Row,
         later: Row,
     ) -> Row
-        requires places { (from ≤ to) × (to ≤ self.old.len) }
+        requires first { from ≤ to }
+        requires last { to ≤ self.old.len }
         requires between { Between from to earlier }
         ensures ordered { Ordered order earlier later self.old self.new }
         ensures tops { result ≡ bit_or earlier later }

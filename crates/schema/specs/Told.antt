@@ -22,11 +22,6 @@ abbrev pub told : Result Checked Refusal → Result ℕ Refusal
 told (Ok c) = Ok c.total
 told (Err e) = Err e
 
--- what is accepted is the table b at scope s
-abbrev pub HoldsTable : Result Checked Refusal → List ℕ → ℕ → Type 0
-HoldsTable (Ok c) b s = (table_of c ≡ b) × (c.scope ≡ s)
-HoldsTable (Err e) b s = Unit {0}
-
 -- item i of a table; past the last, an unknown one
 abbrev pub item_found : List ℕ → ℕ → Item
 item_found b i = if nat_lt i (item_count b) then item_at b i else Unknown

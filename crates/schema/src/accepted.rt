@@ -1,9 +1,9 @@
 //! A table that is accepted, and all that the check found.
 
-ghost use Rattle.std.specs.Prelude.{◌≡◌, ◌≤◌, length, take};
+ghost use Rattle.std.specs.Prelude.{◌≡◌, ◌≤◌, IfOk, length, take};
 ghost use Rattle.questions.specs.Limits.{most_bytes};
 ghost use Rattle.schema.specs.Questions.{verdict};
-ghost use Rattle.schema.specs.Told.{told, HoldsTable};
+ghost use Rattle.schema.specs.Told.{table_of, told};
 
 use crate::checked::Checked;
 use crate::progress::Progress;
@@ -25,7 +25,8 @@ impl Checked {
     /// Checks a table at a scope: what it holds then, or the first question that fails.
     pub fn of(table: &[u8], scope: u8) -> Result<Checked, Refusal>
         ensures answer { told result ≡ verdict table.now scope }
-        ensures holds { HoldsTable result table.now scope }
+        ensures table { IfOk result (λ c. table_of c ≡ table.now) }
+        ensures scope { IfOk result (λ c. c.scope ≡ scope) }
     {
         let Progress {
             scope,

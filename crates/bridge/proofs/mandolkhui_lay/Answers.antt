@@ -16,9 +16,9 @@ sum-requires-clause-fits c =
 
 pub returns : goal.returns
 returns c =
-    let h = c.in-Ok.ensures.holds in
+    let h = c.in-Ok.ensures in
     let n = c.args.last - c.args.first in
     sum_from_yields_List c.map.result c.sum.result c.sum.ensures.ran
     (YieldsList-from_map _ (events_at (table_of c.in-Ok.schema) c.in-Ok.schema.scope) (YieldsList-from_range _ _ n c.map.ensures.source refl) c.map.ensures.closure
     (λ x r q k. (search rules, search rules)))
-    ∙ (ap₂ (λ b s. events_from b s c.args.first n) h.0 h.1 ∙ ap (λ v. told_events v (events_from c.args.table.now c.args.scope c.args.first n)) c.in-Ok.ensures.answer)
+    ∙ (ap₂ (λ b s. events_from b s c.args.first n) h.table h.scope ∙ ap (λ v. told_events v (events_from c.args.table.now c.args.scope c.args.first n)) c.in-Ok.ensures.answer)

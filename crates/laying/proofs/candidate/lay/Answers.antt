@@ -28,7 +28,7 @@ pub slice_bounds-root-items-end : goal.slice_bounds-root-items-end
 slice_bounds-root-items-end c = sym (first_planned c.args.schema.now c.planned.result.now c.args.roots c.planned.ensures (omega (arith, c.if-roots.false, c.roots.ensures)))
 
 pub loop-root-init : goal.loop-root-init
-loop-root-init c = begun_none c.args.schema.now c.args.number c.total-after.result c.nothing-laid.result c.total-after.ensures (omega (arith, c.if-number-total.false, c.total.ensures, c.total-after.ensures)) c.nothing-laid.ensures.shown c.nothing-laid.ensures.none.0 c.nothing-laid.ensures.none.1
+loop-root-init c = begun_none c.args.schema.now c.args.number c.total-after.result c.nothing-laid.result c.total-after.ensures (omega (arith, c.if-number-total.false, c.total.ensures, c.total-after.ensures)) c.nothing-laid.ensures.shown c.nothing-laid.ensures.events c.nothing-laid.ensures.roots
 
 pub nonzero_div-after : goal.nonzero_div-after
 nonzero_div-after c =

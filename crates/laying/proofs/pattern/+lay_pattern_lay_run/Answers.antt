@@ -2,7 +2,7 @@ use Rattle.std.proofs.Common.{refl, ap, ◌∙◌, arith}
 use Rattle.grammar.specs.Pattern.{most}
 use Rattle.numbering.specs.Choice.{earlier, later}
 use Rattle.schema.proofs.Carried.{checked_sound}
-use Rattle.laying.proofs.Laws.{laid_as, laid_empty, laid_node, laid_took, laid_pair, part_places, part_between}
+use Rattle.laying.proofs.Laws.{laid_as, laid_empty, laid_node, laid_took, laid_pair, part_after, part_between}
 use Rattle.laying.proofs.Parts.{nothing_at, atom_at, inside_of, parts_of, sides_of, earlier_taken, later_taken, many_of, run_none, run_some, run_parts}
 use Rattle.laying.proofs.pattern.+lay_pattern_lay_run.Goals as goal
 
@@ -27,7 +27,7 @@ lay_pattern-lay_pattern-second-requires t c =
     (omega (arith, u.room), (u.second, omega (arith, u.long, c.requires.room, c.lay_pattern-first.ensures.length)))
 
 pub lay_pattern-order-requires : goal.lay_pattern-order-requires
-lay_pattern-order-requires t c = record { places = part_places c.lay_pattern-first.ensures c.lay_pattern-second.ensures; between = part_between c.lay_pattern-first.ensures }
+lay_pattern-order-requires t c = record { first = part_after c.lay_pattern-first.ensures; last = part_after c.lay_pattern-second.ensures; between = part_between c.lay_pattern-first.ensures }
 
 pub lay_pattern-overflow_sub-at-in-Either : goal.lay_pattern-overflow_sub-at-in-Either
 lay_pattern-overflow_sub-at-in-Either t c =
@@ -106,7 +106,7 @@ lay_run-lay_run-second-requires t c =
     (omega (arith, c.if-run-eq0.false), (u.others, omega (arith, u.long, c.requires.room, c.lay_pattern-first.ensures.length)))
 
 pub lay_run-order-requires : goal.lay_run-order-requires
-lay_run-order-requires t c = record { places = part_places c.lay_pattern-first.ensures c.lay_run-second.ensures; between = part_between c.lay_pattern-first.ensures }
+lay_run-order-requires t c = record { first = part_after c.lay_pattern-first.ensures; last = part_after c.lay_run-second.ensures; between = part_between c.lay_pattern-first.ensures }
 
 pub lay_run-returns : goal.lay_run-returns
 lay_run-returns t c =

@@ -22,7 +22,7 @@ returns c =
           let yes = sym w.written-is ∙ c.in-Ok-written.is in
           w.page-is
           ∙ (kept_whole _ _ (number_lines (table_of x) x.scope o) c.new-page.ensures (on_yes _ _ _ yes w.write_number-written.ensures.written) (omega (arith, on_yes _ _ _ yes w.write_number-written.ensures.short))
-          ∙ (ap₂ (λ b s. number_lines b s o) h.holds.0 h.holds.1 ∙ sym (laid_yes c.args.table.now c.args.scope x.total o (sym h.answer))))
+          ∙ (ap₂ (λ b s. number_lines b s o) h.table h.scope ∙ sym (laid_yes c.args.table.now c.args.scope x.total o (sym h.answer))))
           )
       | in-Err w ↦ (
           let r = w.in-Err.refusal in

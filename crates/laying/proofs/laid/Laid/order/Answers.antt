@@ -9,7 +9,7 @@ returns-clause-ordered c = elim c.match-order.branch [
   | in-InOrder w ↦ rw (w.in-InOrder.is, w.self-is) (record {
     len = refl;
     events = ap (λ es. take c.args.self.now.len (put_mid c.args.from (c.args.to - c.args.from) c.args.self.now.events es)) w.precede.ensures
-        ∙ preceding_part c.args.earlier c.args.later c.args.from c.args.to c.args.self.now.len c.args.self.now.events c.requires.places.0 (search rules) c.requires.between;
+        ∙ preceding_part c.args.earlier c.args.later c.args.from c.args.to c.args.self.now.len c.args.self.now.events c.requires.first (search rules) c.requires.between;
     roots = refl;
     starts = refl;
   })
