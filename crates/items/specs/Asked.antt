@@ -69,8 +69,8 @@ finds t Unknown = false
 abbrev pub asked : ℕ → Tally → Item → ℕ → Answer
 asked s t it a =
     if known it then
-      (if suits s t.roots it a then (if finds t it then passes else Err Takes)
-       else Err Argument)
+    (if suits s t.roots it a then (if finds t it then passes else Err Takes)
+    else Err Argument)
     else Err Kind
 
 -- Questions 8 and 9, of a count and a length.
@@ -83,6 +83,6 @@ sized n l = if nat_le n most_candidates then (if nat_le l most_events then passe
 abbrev pub closing : Tally → ℕ → ℕ → Answer
 closing t n l =
     if t.closed == t.roots && (t.patterns == 0 && t.picks == 0) then
-      (if nat_le n most_candidates then (if nat_le l most_events then passes else Err Events)
-       else Err Total)
+    (if nat_le n most_candidates then (if nat_le l most_events then passes else Err Events)
+    else Err Total)
     else Err Whole
