@@ -16,11 +16,9 @@ use grammar::{Measure, Selection};
 use items::{Item, Tally, ask_item, ask_measure};
 use questions::Question;
 
-/// What stands for a pick where none waits. No `Option`: how many wait is in the tally, and only a pick that waits is asked about.
-const NO_SELECTION: Selection = Selection { root: 0, event: 0 };
-
 /// A check at a scope, and what the items so far leave: what is closed and what waits, the latest two picks, the total and the length of
 /// the closed roots, their plan, and the measures of the items.
+// A pick that does not wait is all zero, and no `None`: the tally says how many wait, and only a pick that waits is asked about.
 #[derive(Drop)]
 pub(crate) struct Progress {
     pub(crate) scope: u8,
@@ -47,8 +45,8 @@ impl Progress {
                 patterns: 0,
                 picks: 0,
             },
-            earlier: NO_SELECTION,
-            later: NO_SELECTION,
+            earlier: Selection::default(),
+            later: Selection::default(),
             total: 1,
             length: 0,
             plan: Plan::empty(),
@@ -103,8 +101,8 @@ impl Progress {
                 self.tally.picks += 1;
             }
             Item::Relate(_) | Item::AtMost(_) => {
-                self.earlier = NO_SELECTION;
-                self.later = NO_SELECTION;
+                self.earlier = Selection::default();
+                self.later = Selection::default();
                 self.tally.picks = 0;
             }
             Item::Unknown => {}
