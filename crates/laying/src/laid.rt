@@ -108,14 +108,14 @@ impl Laid {
         earlier: Row,
         later: Row,
     ) -> Row
-        requires first { from ≤ to }
-        requires last { to ≤ self.old.len }
+        requires places { to ≤ self.old.len }
         requires between { Between from to earlier }
         ensures ordered { Ordered order earlier later self.old self.new }
         ensures tops { result ≡ bit_or earlier later }
     {
         match order {
             Order::InOrder => {
+                let from = from.min(to);
                 let events = &mut self.events[..];
                 Laid::precede(&mut events[from..to], from, earlier, later);
             }

@@ -27,7 +27,7 @@ lay_pattern-lay_pattern-second-requires t c =
     (omega (arith, u.room), (u.second, omega (arith, u.long, c.requires.room, c.lay_pattern-first.ensures.length)))
 
 pub lay_pattern-order-requires : goal.lay_pattern-order-requires
-lay_pattern-order-requires t c = record { first = part_after c.lay_pattern-first.ensures; last = part_after c.lay_pattern-second.ensures; between = part_between c.lay_pattern-first.ensures }
+lay_pattern-order-requires t c = record { places = part_after c.lay_pattern-second.ensures; between = part_between c.lay_pattern-first.ensures }
 
 pub lay_pattern-overflow_sub-at-in-Either : goal.lay_pattern-overflow_sub-at-in-Either
 lay_pattern-overflow_sub-at-in-Either t c =
@@ -106,7 +106,7 @@ lay_run-lay_run-second-requires t c =
     (omega (arith, c.if-run-eq0.false), (u.others, omega (arith, u.long, c.requires.room, c.lay_pattern-first.ensures.length)))
 
 pub lay_run-order-requires : goal.lay_run-order-requires
-lay_run-order-requires t c = record { first = part_after c.lay_pattern-first.ensures; last = part_after c.lay_run-second.ensures; between = part_between c.lay_pattern-first.ensures }
+lay_run-order-requires t c = record { places = part_after c.lay_run-second.ensures; between = part_between c.lay_pattern-first.ensures }
 
 pub lay_run-returns : goal.lay_run-returns
 lay_run-returns t c =

@@ -72,14 +72,14 @@ returns-in-Pick c = record {
 
 pub returns-in-Relate : goal.returns-in-Relate
 returns-in-Relate c =
-  let x : c.default-self.result ≡ record { root = 0; event = 0 } = search rules in
-  let y : c.default-self-in-Relate.result ≡ record { root = 0; event = 0 } = search rules in
-  rw (x, y) (record {
-  counted = operates c.args.table.now c.args.i c.args.self.now c.requires.counted c.item.result c.item.ensures.item c.requires.admitted.passed c.in-Relate.is _ refl refl refl
-      (record { scope = refl; total = refl; length = refl; plan = refl });
-  scope = refl;
-  known = refl;
-})
+    let x : c.default-self.result ≡ record { root = 0; event = 0 } = search rules in
+    let y : c.default-self-in-Relate.result ≡ record { root = 0; event = 0 } = search rules in
+    rw (x, y) (record {
+      counted = operates c.args.table.now c.args.i c.args.self.now c.requires.counted c.item.result c.item.ensures.item c.requires.admitted.passed c.in-Relate.is _ refl refl refl
+          (record { scope = refl; total = refl; length = refl; plan = refl });
+      scope = refl;
+      known = refl;
+    })
 
 pub returns-in-Unknown : goal.returns-in-Unknown
 returns-in-Unknown c = absurd (suited_at c.args.table.now c.args.self.now.scope c.args.i Unknown c.requires.admitted.passed c.in-Unknown.ensures.item)
