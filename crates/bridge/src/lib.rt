@@ -10,7 +10,6 @@ ghost use Rattle.schema.specs.Questions.{verdict};
 ghost use Rattle.schema.specs.Told.{table_of};
 
 use laying::lay;
-use questions::limits::NO_ITEM;
 use schema::{Checked, Plan, check};
 
 // Answers are numbers, since nothing else crosses to C: a refusal is packed into one, and a refused table lays 0 events.
@@ -23,7 +22,7 @@ pub fn mandolkhui_check(table: &[u8], scope: u8) -> u64
     match check(table, scope, &mut plan) {
         Ok(total) => u64::from(total),
         Err(refusal) => u64::from(refusal.question.number()) * 0x1_0000_0000
-            + u64::from(refusal.item.unwrap_or(NO_ITEM)),
+            + u64::from(refusal.item_shown()),
     }
 }
 

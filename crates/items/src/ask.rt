@@ -50,7 +50,7 @@ pub fn ask_item(scope: u8, tally: Tally, item: Item, argument: u16) -> Result<()
             Question::Argument,
         ),
         (Item::Pick(x), _) if !pick_suits(tally.roots, x) => Err(Question::Argument),
-        (Item::AtMost(n), _) if u32::from(n) > MOST_EVENTS => Err(Question::Argument),
+        (Item::AtMost(n), _) if usize::from(n) > MOST_EVENTS => Err(Question::Argument),
         (Item::Pick(_) | Item::Relate(_) | Item::AtMost(_), _) if tally.closed != tally.roots =>
             Err(Question::Takes),
         (Item::Pick(_), _) if tally.picks > 1 => Err(Question::Takes),
@@ -72,7 +72,7 @@ pub fn ask_measure(m: Measure) -> Result<(), Question>
     if m.count > MOST_CANDIDATES {
         return Err(Question::Count);
     }
-    if u32::from(m.length) > MOST_EVENTS {
+    if usize::from(m.length) > MOST_EVENTS {
         return Err(Question::Length);
     }
     Ok(())
@@ -88,7 +88,7 @@ pub fn ask_whole(tally: Tally, total: u32, length: u32) -> Result<(), Question>
     if total > MOST_CANDIDATES {
         return Err(Question::Total);
     }
-    if length > MOST_EVENTS {
+    if length as usize > MOST_EVENTS {
         return Err(Question::Events);
     }
     Ok(())

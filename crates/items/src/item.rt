@@ -28,11 +28,12 @@ pub enum Item {
     Relate(Relation),
     /// Kind 14: at most so many events of one pick.
     AtMost(u16),
-    /// Any other kind. A case and no `None` around the item: any kind is read, and what reads it, matches on, before question 4 is asked.
+    /// Any other kind. No `None` instead: `item_of` cannot fail, and question 4 is asked of what it gives.
     Unknown,
 }
 
 /// The item of a kind and an argument.
+// No `From`: two numbers of a table are no type of their own.
 pub fn item_of(kind: u8, argument: u16) -> Item
     ensures { result ≡ item_of kind argument }
 {

@@ -51,7 +51,7 @@ pub fn lay(schema: &Checked, number: u32, roots: usize) -> Option<Laid>
     let mut laid = Laid::nothing();
     let mut after = schema.total();
     let mut rest = number;
-    for root in &schema.planned()[..roots] {
+    for root in &schema.entries()[..roots] {
         after /= root.count;
         let (digit, left) = split_pair(rest, after);
         lay_root(schema, *root, digit, &mut laid);

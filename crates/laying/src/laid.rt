@@ -1,10 +1,10 @@
 //! What is laid: events, one after another.
 
-ghost use Rattle.std.specs.Prelude.{◌≡◌, ◌+◌, ◌^◌, ◌<◌, ◌≤◌, length, take, [], bit_or};
+ghost use Rattle.std.specs.Prelude.{◌≡◌, ◌+◌, ◌^◌, ◌<◌, ◌≤◌, length, [], bit_or};
 ghost use Rattle.questions.specs.Limits.{most_events, most_roots};
 
 use grammar::Order;
-use questions::limits::{EVENT_PLACES, MOST_ROOTS};
+use questions::limits::{MOST_EVENTS, MOST_ROOTS};
 use rows::Row;
 
 /// A laid event: its type, the place of the nearest event around it, and the row of the places that it precedes.
@@ -32,7 +32,7 @@ impl LaidEvent {
 // How many there are stands beside the arrays, because a vector of fixed room is not Copy, and a beginning is.
 #[derive(Clone, Copy)]
 pub struct Laid {
-    pub(crate) events: [LaidEvent; EVENT_PLACES],
+    pub(crate) events: [LaidEvent; MOST_EVENTS],
     pub(crate) len: usize,
     pub(crate) starts: [u8; MOST_ROOTS],
     pub(crate) roots: usize,
@@ -52,7 +52,7 @@ impl Laid {
         ensures roots { result.roots ≡ 0 }
     {
         Laid {
-            events: [LaidEvent::new(0, None); EVENT_PLACES],
+            events: [LaidEvent::new(0, None); MOST_EVENTS],
             len: 0,
             starts: [0; MOST_ROOTS],
             roots: 0,
@@ -69,7 +69,8 @@ impl Laid {
 
     /// The place where each root starts.
     pub fn starts(&self) -> &[u8]
-        ensures { result.now ≡ (shown self.now).starts }
+        ensures starts { result.now ≡ (shown self.now).starts }
+        ensures few { length result.now ≤ most_roots }
     {
         &self.starts[..self.roots]
     }

@@ -1,6 +1,7 @@
-//! The patterns of a checked table, laid by their numbers. Each item lays what earlier items end, so the item's index falls.
+//! The patterns of a checked table, laid by their numbers. Each item lays what earlier items end, so the item's index falls. A pattern is
+//! its items and no `Box`, since a library allocates nothing.
 
-ghost use Rattle.std.specs.Prelude.{◌≡◌, ◌+◌, ◌≤◌};
+ghost use Rattle.std.specs.Prelude.{◌+◌, ◌≤◌};
 ghost use Rattle.questions.specs.Limits.{most_events};
 ghost use Rattle.laying.specs.Layable.{choice_at, longest, Layable, run_choice, longest_run, LayableRun};
 ghost use Rattle.laying.specs.Lays.{LaysTop};
@@ -22,6 +23,7 @@ pub(crate) struct Run {
 }
 
 /// Lays the choice that the pattern of item `i` has at a number, and gives its top events.
+// No struct of what both functions pass on: `around` changes with each event around, and table and events would be joined for these two alone.
 #[cycle(lay_pattern_lay_run)]
 pub(crate) fn lay_pattern(
     schema: &Checked,

@@ -1,6 +1,6 @@
 //! The card of a table: a line for each root and one for the total, or the refusal.
 
-ghost use Rattle.std.specs.Prelude.{◌≡◌, ◌*◌, ◌≤◌, ◌++◌, length, IfOk, OnOk, string_bytes};
+ghost use Rattle.std.specs.Prelude.{◌≡◌, ◌*◌, ◌≤◌, length, IfOk, OnOk, string_bytes};
 ghost use Rattle.text.specs.Room.{text_room};
 ghost use Rattle.lines.specs.Card.{most_line, entry_line, entry_lines, total_line, card};
 

@@ -1,4 +1,4 @@
-//! What a card is written to: a text in fixed room, or one on the heap.
+//! What lines are written to: a text in fixed room, or one on the heap.
 
 ghost use Rattle.std.specs.Prelude.{◌≡◌, ℕ, ◌≤◌, List, [], ◌++◌, OnOk, length, decimal, string_bytes};
 ghost use Rattle.text.specs.Room.{text_room, kept};
@@ -13,7 +13,7 @@ pub(crate) trait Page {
     /// Why a word is not added.
     type Error;
 
-    // the last page is the first with these bytes added
+    // The last page is the first with these bytes added. Of a text this is said where the first fits its room, as every text does.
     ghost adds: { Self → List ℕ → Self → Type 0 };
 
     /// Adds a word.

@@ -1,7 +1,7 @@
 //! One number taken apart into those of the patterns below.
 
-ghost use Rattle.std.specs.Prelude.{◌≡◌, ◌*◌, ◌/◌, ◌%◌, ◌^◌, ◌≤◌};
-ghost use Rattle.numbering.specs.Splits.{side_at, power_capped, times_at};
+ghost use Rattle.std.specs.Prelude.{◌≡◌, ◌/◌, ◌%◌};
+ghost use Rattle.numbering.specs.Splits.{side_at, times_at};
 
 /// One past the largest number that 32 bits hold: a power stops here.
 const POWER_CAP: u64 = 1 << 32;

@@ -25,10 +25,7 @@ pub const SCOPE_MARK: u8 = 255;
 pub const MOST_CANDIDATES: u32 = 1_000_000;
 
 /// How many events a pattern, a root or a schema lays at most.
-pub const MOST_EVENTS: u32 = 64;
-
-/// The same, as the length of an array, which takes a `usize` and no computation.
-pub const EVENT_PLACES: usize = MOST_EVENTS as usize;
+pub const MOST_EVENTS: usize = 64;
 
 /// What a refusal shows for its item where its question was not asked of one.
 pub const NO_ITEM: u8 = 255;

@@ -1,8 +1,7 @@
 //! A refusal, and the line that shows it.
 
 ghost use Rattle.std.specs.Prelude.{◌≡◌, Some};
-ghost use Rattle.questions.specs.Numbers.{of_no_item};
-ghost use Rattle.questions.specs.Numbers.{refusal_line};
+ghost use Rattle.questions.specs.Numbers.{of_no_item, item_shown, refusal_line};
 
 use crate::limits::NO_ITEM;
 use crate::question::Question;
@@ -13,6 +12,15 @@ use std::fmt;
 pub struct Refusal {
     pub question: Question,
     pub item: Option<u8>,
+}
+
+impl Refusal {
+    /// The number that is shown for its item: 255 where there is none.
+    pub fn item_shown(self) -> u8
+        ensures { result ≡ item_shown self.item }
+    {
+        self.item.unwrap_or(NO_ITEM)
+    }
 }
 
 /// A question that is not asked of an item.
@@ -33,7 +41,7 @@ impl fmt::Display for Refusal {
 
     fn fmt<W: fmt::Write>(&self, f: &mut fmt::Formatter<W>) -> fmt::Result {
         let question = self.question.number();
-        let item = self.item.unwrap_or(NO_ITEM);
+        let item = self.item_shown();
         write!(f, "no {question} {item}")
     }
 }

@@ -4,7 +4,7 @@ ghost use Rattle.std.specs.Prelude.{◌≡◌, bit_or};
 ghost use Rattle.rows.specs.Bits.{bit};
 ghost use Rattle.rows.specs.Row.{one_bit};
 
-use questions::limits::EVENT_PLACES;
+use questions::limits::MOST_EVENTS;
 use std::marker::Model;
 use std::ops::{BitOr, BitOrAssign};
 
@@ -37,7 +37,7 @@ impl Row {
     pub fn one(place: usize) -> Row
         ensures { result ≡ one_bit place }
     {
-        if place < EVENT_PLACES {
+        if place < MOST_EVENTS {
             Row { bits: 1 << place }
         } else {
             Row::none()
@@ -48,7 +48,7 @@ impl Row {
     pub fn has(self, place: usize) -> bool
         ensures { result ≡ bit self place }
     {
-        place < EVENT_PLACES && (self.bits >> place) & 1 == 1
+        place < MOST_EVENTS && (self.bits >> place) & 1 == 1
     }
 
     /// The number whose bits these are.

@@ -1,8 +1,7 @@
 -- What a check knows at its end, what a checked table carries of it, and what follows again.
-use Rattle.std.proofs.Common.{◌≡◌, ℕ, suc, ◌+◌, ◌-◌, ◌≤◌, List, [], ◌∷◌, length, get_or, replicate, None, Ok, Err, Result, sym, refl, ap, ◌∙◌, subst, ap₂, arith, length-append}
-use Rattle.std.proofs.lemmas.List.{get_or_append_left, get_or_past, length-replicate}
+use Rattle.std.proofs.Common.{◌≡◌, ℕ, suc, ◌+◌, List, [], ◌∷◌, length, get_or, None, Ok, Err, Result, sym, refl, ap, ◌∙◌, subst, ap₂, arith}
+use Rattle.std.proofs.lemmas.List.{get_or_append_left}
 use Rattle.arrayvec.specs.ArrayVec.{ArrayVec, array_vec_len}
-use Rattle.questions.specs.Limits.{most_roots}
 use Rattle.questions.specs.declared.question.Question.{Question}
 use Rattle.questions.specs.declared.refusal.Refusal.{Refusal}
 use Rattle.grammar.specs.Pattern.{size}
@@ -122,13 +121,6 @@ sound b s t p k bytes a ps l ms =
 
 pub checked_sound : (c : Checked) → Sound (table_of c) c.scope c.total c.plan c.known
 checked_sound c = sound (table_of c) c.scope c.total c.plan c.known c.octets c.accepted c.planned c.all c.measured
-
--- a plan has no entry past its last
-length-plan : (s : ℕ) (rs : List Rooted) → length rs ≤ most_roots → length (plan_of s rs).roots ≡ most_roots
-length-plan s rs h = length-append (entries s 0 rs) (replicate (most_roots - length rs) no_root) ∙ omega (arith, length-entries s 0 rs, length-replicate (most_roots - length rs) no_root)
-
-pub past_plan : (s k : ℕ) (rs : List Rooted) → length rs ≤ most_roots → most_roots ≤ k → get_or (plan_of s rs).roots k no_root ≡ no_root
-past_plan s k rs h l = get_or_past (plan_of s rs).roots k no_root (omega (arith, length-plan s rs h))
 
 pub checked_total : (c : Checked) → c.total ≡ candidates c.scope (schema_of (table_of c)).roots
 checked_total c =

@@ -1,5 +1,5 @@
 -- What a check tells, and what a checked table tells when asked. Assumes nothing.
-use Rattle.std.specs.Prelude.{◌≡◌, ℕ, if◌then◌else◌, List, take, Ok, Err, Result, nat_lt, slice_index_or}
+use Rattle.std.specs.Prelude.{ℕ, if◌then◌else◌, List, take, Ok, Err, Result, nat_lt, slice_index_or}
 use Rattle.grammar.specs.Measures.{measure_of}
 use Rattle.grammar.specs.declared.measure.Measure.{Measure}
 use Rattle.items.specs.declared.item.Item.{Item}

@@ -11,7 +11,7 @@ use crate::plan::Plan;
 use questions::limits::MOST_BYTES;
 
 /// A table that passed all questions at a scope: its bytes, its total, the plan of its roots and the measures of its items.
-// The bytes are an array with their number beside it, since an `ArrayVec` would be filled by a call that may fail, and here none can.
+// The bytes are an array with their number beside it: an `ArrayVec` would answer the copy with an error for what no accepted table does.
 #[derive(Drop)]
 pub struct Checked {
     pub(crate) bytes: [u8; MOST_BYTES],

@@ -47,14 +47,14 @@ impl Checked {
         self.sized().roots()
     }
 
-    // Past the last item or root there is no `None`, since these calls cannot fail.
-
-    /// The roots, in order.
-    pub fn planned(&self) -> &[Root]
+    /// The entries of its roots in the plan, in order.
+    pub fn entries(&self) -> &[Root]
         ensures { result.now ≡ entries self.now.scope 0 (schema_of (table_of self.now)).roots }
     {
         &self.plan.roots[..self.roots()]
     }
+
+    // Past the last item or root there is no `None`, since these calls cannot fail.
 
     /// Item `i`; past the last, an unknown one.
     pub fn item(&self, i: usize) -> Item

@@ -15,7 +15,7 @@ pub struct Root {
     pub length: u8,
 }
 
-/// The roots in order. An entry without a root is all zero, and no `None`: the table of eight entries is a format, for callers in C too.
+/// The roots in order. An entry without a root is all zero, and no `None`: the eight entries are a format (docs/TABLE.md).
 #[derive(Clone, Copy)]
 pub struct Plan {
     pub roots: [Root; MOST_ROOTS],

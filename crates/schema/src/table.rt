@@ -53,6 +53,8 @@ impl<'a> Table<'a> {
         usize::from(word_at(self.bytes, 2))
     }
 
+    // An item has no type of its own that says it is there: it is an index with its bound, as in a slice.
+
     pub(crate) fn argument(&self, i: usize) -> u16
         requires { i < item_count self.now }
         ensures { result ≡ argument_at self.now i }

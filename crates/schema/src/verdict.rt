@@ -20,6 +20,7 @@ fn taken(bytes: &[u8], scope: u8) -> Result<Progress, Refusal>
     ask_opening(bytes, scope)?;
     let table = Table::of(bytes);
     let mut progress = Progress::start(scope, table.roots());
+    // By number, since a refusal names the number.
     for i in 0..table.items() {
         progress.take(&table, i).map_err(|question| Refusal {
             question,

@@ -25,7 +25,7 @@ returns-then-number-total c = record {
 }
 
 pub slice_bounds-root-items-end : goal.slice_bounds-root-items-end
-slice_bounds-root-items-end c = sym (first_planned c.args.schema.now c.planned.result.now c.args.roots c.planned.ensures (omega (arith, c.if-roots.false, c.roots.ensures)))
+slice_bounds-root-items-end c = sym (first_planned c.args.schema.now c.entries.result.now c.args.roots c.entries.ensures (omega (arith, c.if-roots.false, c.roots.ensures)))
 
 pub loop-root-init : goal.loop-root-init
 loop-root-init c = begun_none c.args.schema.now c.args.number c.total-after.result c.nothing-laid.result c.total-after.ensures (omega (arith, c.if-number-total.false, c.total.ensures, c.total-after.ensures)) c.nothing-laid.ensures.shown c.nothing-laid.ensures.events c.nothing-laid.ensures.roots
@@ -34,16 +34,16 @@ pub nonzero_div-after : goal.nonzero_div-after
 nonzero_div-after c =
     let s = c.args.schema.now in
     let le : c.args.roots ≤ length (roots_of s) = omega (arith, c.if-roots.false, c.roots.ensures) in
-    let lt : c.loop-root.root-index < c.args.roots = omega (arith, c.loop-root-test.true, first_planned s c.planned.result.now c.args.roots c.planned.ensures le) in
-    let is = planned_is s c.planned.result.now c.args.roots c.loop-root.root-index c.planned.ensures lt le in
+    let lt : c.loop-root.root-index < c.args.roots = omega (arith, c.loop-root-test.true, first_planned s c.entries.result.now c.args.roots c.entries.ensures le) in
+    let is = planned_is s c.entries.result.now c.args.roots c.loop-root.root-index c.entries.ensures lt le in
     (digit (omega (arith, lt, le)) is c.loop-root.invariant).some
 
 pub lay_root-requires : goal.lay_root-requires
 lay_root-requires c =
     let s = c.args.schema.now in
     let le : c.args.roots ≤ length (roots_of s) = omega (arith, c.if-roots.false, c.roots.ensures) in
-    let lt : c.loop-root.root-index < c.args.roots = omega (arith, c.loop-root-test.true, first_planned s c.planned.result.now c.args.roots c.planned.ensures le) in
-    let is = planned_is s c.planned.result.now c.args.roots c.loop-root.root-index c.planned.ensures lt le in
+    let lt : c.loop-root.root-index < c.args.roots = omega (arith, c.loop-root-test.true, first_planned s c.entries.result.now c.args.roots c.entries.ensures le) in
+    let is = planned_is s c.entries.result.now c.args.roots c.loop-root.root-index c.entries.ensures lt le in
     let more : c.loop-root.root-index < length (roots_of s) = omega (arith, lt, le) in
     let g = c.loop-root.invariant in
     record { follows = follows more is g; layable = layable more is g c.split_pair-digit.ensures.earlier; few = few more is g; room = room_at more is g }
@@ -52,8 +52,8 @@ pub loop-root-preserved : goal.loop-root-preserved
 loop-root-preserved c =
     let s = c.args.schema.now in
     let le : c.args.roots ≤ length (roots_of s) = omega (arith, c.if-roots.false, c.roots.ensures) in
-    let lt : c.loop-root.root-index < c.args.roots = omega (arith, c.loop-root-test.true, first_planned s c.planned.result.now c.args.roots c.planned.ensures le) in
-    let is = planned_is s c.planned.result.now c.args.roots c.loop-root.root-index c.planned.ensures lt le in
+    let lt : c.loop-root.root-index < c.args.roots = omega (arith, c.loop-root-test.true, first_planned s c.entries.result.now c.args.roots c.entries.ensures le) in
+    let is = planned_is s c.entries.result.now c.args.roots c.loop-root.root-index c.entries.ensures lt le in
     let d = c.split_pair-digit.ensures in
     let h = c.lay_root.ensures in
     begun_more (omega (arith, lt, le)) is c.loop-root.invariant d.earlier d.later h.lays h.roots h.length
@@ -61,7 +61,7 @@ loop-root-preserved c =
 pub returns : goal.returns
 returns c =
     let le : c.args.roots ≤ length (roots_of c.args.schema.now) = omega (arith, c.if-roots.false, c.roots.ensures) in
-    let many = first_planned c.args.schema.now c.planned.result.now c.args.roots c.planned.ensures le in
+    let many = first_planned c.args.schema.now c.entries.result.now c.args.roots c.entries.ensures le in
     record {
       answer = begun_all c.args.schema.now c.args.number c.args.roots c.loop-root.root-index c.loop-root.rest c.loop-root.after c.loop-root.laid (omega (arith, c.loop-root-test.false, many)) (omega (arith, c.loop-root.auto.root-index-end, many)) (omega (arith, c.if-number-total.false)) (omega (arith, c.if-roots-eq0.false)) le c.loop-root.invariant;
       numbers = (patterns_numbered, roots_numbered);

@@ -15,8 +15,8 @@ returns-clause-written g c =
     (then _ _ _ (codes "no ") _ c.in_ok-add.ensures
     (then _ _ _ (decimal (number_of r.question)) _ (rw (c.from.ensures ∙ c.number.ensures) at c.in_ok-add_number.ensures)
     (then _ _ _ (codes " ") _ c.in_ok-add-2.ensures
-    (then _ _ _ (decimal (item_shown r.item)) line_end (rw (c.from-2.ensures ∙ c.unwrap_or.ensures) at c.in_ok-add_number-2.ensures) last)))))
+    (then _ _ _ (decimal (item_shown r.item)) line_end (rw (c.from-2.ensures ∙ c.item_shown.ensures) at c.in_ok-add_number-2.ensures) last)))))
     c.add-3.ensures
 
 pub returns-clause-short : goal.returns-clause-short
-returns-clause-short g c = on_ok_weaker c.add-3.result (λ _. short_refusal c.args.refusal (omega (arith, c.number.ensures)) (omega (arith, c.unwrap_or.ensures))) c.add-3.ensures
+returns-clause-short g c = on_ok_weaker c.add-3.result (λ _. short_refusal c.args.refusal (omega (arith, c.number.ensures)) (omega (arith, c.item_shown.ensures))) c.add-3.ensures

@@ -2,6 +2,6 @@ use Rattle.std.proofs.Common.{refl}
 use Rattle.laying.specs.Lays.{shown}
 use Rattle.laying.proofs.laid.Laid.starts.Goals as goal
 
-pub returns : goal.returns
+pub returns-clause-starts : goal.returns-clause-starts
 unfolding shown
-returns c = refl
+returns-clause-starts c = refl

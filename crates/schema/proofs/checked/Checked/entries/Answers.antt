@@ -5,7 +5,7 @@ use Rattle.schema.specs.Reading.{schema_of}
 use Rattle.schema.specs.Told.{table_of}
 use Rattle.schema.specs.declared.plan.Plan.{Plan}
 use Rattle.schema.proofs.Carried.{checked_sound, length-entries}
-use Rattle.schema.proofs.checked.Checked.planned.Goals as goal
+use Rattle.schema.proofs.checked.Checked.entries.Goals as goal
 
 pub shared_ref_as_front-result : goal.shared_ref_as_front-result
 shared_ref_as_front-result c = omega (arith, c.roots.ensures, (checked_sound c.args.self.now).within.roots_to)
