@@ -1,5 +1,5 @@
 -- Sums, products and powers of numbers that stop at a limit.
-use Rattle.std.proofs.Common.{◌≡◌, ℕ, zero, suc, ◌+◌, ◌-◌, ◌*◌, ◌^◌, ◌≤◌, min, refl, ◌∙◌, pow-suc, mul-zero, zero-lt-suc, le-mul_of_pos_right, arith}
+use Rattle.std.proofs.Common.{◌≡◌, ℕ, zero, suc, ◌+◌, ◌*◌, ◌^◌, min, refl, ◌∙◌, pow-suc, mul-zero, zero-lt-suc, le-mul_of_pos_right, arith}
 use native.Mathlib.Nat.{pow-zero}
 use Rattle.std.proofs.lemmas.Bool.{cases_lt}
 use Rattle.questions.specs.Limits.{most_candidates}
@@ -20,17 +20,6 @@ capped_mul x y = min_mul_left (most_candidates + 1) x (count_capped y) ∙ min_m
 -- a power that stops at m, and one more factor
 pub min_pow_more : (m c k : ℕ) → min (min (c ^ k) m * c) m ≡ min (c ^ (k + 1)) m
 min_pow_more m c k = grind (arith, min_mul_left m (c ^ k) c, pow-suc c k)
-
-powers-suc : (c m a : ℕ) → powers c (suc m) a ≡ powers c m a + c ^ (a + m)
-powers-suc c zero a = grind arith
-powers-suc c (suc m) a = grind (arith, powers-suc c m (suc a))
-
--- the powers below the k-th, and that one more
-pub powers_more : (c k a : ℕ) → a ≤ k → powers c (k - a) a + c ^ k ≡ powers c (k + 1 - a) a
-powers_more c k a h =
-    let next : k + 1 - a ≡ suc (k - a) = omega arith in
-    let last : a + (k - a) ≡ k = omega arith in
-    grind (arith, powers-suc c (k - a) a)
 
 capped_power : (c k : ℕ) → count_capped (count_capped c ^ k) ≡ count_capped (c ^ k)
 capped_power c zero = grind (arith, pow-zero)

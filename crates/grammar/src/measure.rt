@@ -28,18 +28,21 @@ pub fn product_capped(a: u32, b: u32) -> u32
     count_capped(u64::from(a) * u64::from(b))
 }
 
-/// All powers of `c` from the `least`-th to the `most`-th, added up. A loop, since each is the one before times `c`.
-#[tactic(auto, using(crate::proofs::Caps::powers_more, crate::proofs::Caps::min_pow_more))]
+/// The `k`-th power of a number of choices, as far as one past the limit.
+fn power_capped(c: u32, k: u32) -> u32
+    ensures { result ≡ count_capped (c ^ k) }
+{
+    count_capped(u64::from(c.saturating_pow(k)))
+}
+
+/// All powers of `c` from the `least`-th to the `most`-th, added up.
 fn powers_capped(c: u32, least: u8, most: u8) -> u32
     ensures { result ≡ count_capped (powers c (span least most) least) }
 {
-    let mut power = count_capped(u64::from(c.saturating_pow(u32::from(least))));
-    let mut sum = 0;
-    for _k in least..=most {
-        sum = count_capped(u64::from(sum) + u64::from(power));
-        power = product_capped(power, c);
-    }
-    sum
+    let sum = (u32::from(least)..u32::from(most) + 1)
+        .map(|k| u64::from(power_capped(c, k)))
+        .sum();
+    count_capped(sum)
 }
 
 /// The most of a repetition: the mark stands for the scope.
