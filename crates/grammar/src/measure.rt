@@ -1,6 +1,6 @@
 //! How many items write a pattern, how many choices it has and how many events it lays at most.
 
-ghost use Rattle.std.specs.Prelude.{◌≡◌, ◌*◌};
+ghost use Rattle.std.specs.Prelude.{◌≡◌, ◌*◌, ◌^◌};
 ghost use Rattle.grammar.specs.Pattern.{powers, span, most as most_at};
 ghost use Rattle.grammar.specs.Measures.{count_capped, capped, nothing_measure, atom_measure, inside_measure, both_measure, either_measure, repeat_measure};
 
