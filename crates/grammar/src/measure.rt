@@ -64,6 +64,8 @@ impl Measure {
         }
     }
 
+    // `nothing` and `atom` differ in one number; with it as a parameter, a call would not say what is measured.
+
     /// Of nothing.
     pub fn nothing() -> Measure
         ensures { result ≡ nothing_measure }

@@ -18,7 +18,7 @@ fn said(rt: &HostRuntime) -> anyhow::Result<(u8, Option<u32>)> {
     Ok((scope_said(scope.as_bytes()), number_said(number.as_bytes())))
 }
 
-// `card` reads its input alike. A crate for both would read the host, of which its contracts could promise nothing.
+// `card` reads its input alike. A crate for both would be a library that allocates.
 fn run(rt: &HostRuntime) -> anyhow::Result<()> {
     let (scope, number) = said(rt)?;
     let mut table = Vec::new(rt.alloc());

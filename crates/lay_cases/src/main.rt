@@ -7,7 +7,7 @@ use anyhow::anyhow;
 use lines::{laid_text, number_said};
 
 /// Answers one line.
-// `cases` reads its lines alike. A crate for both would read the host, of which its contracts could promise nothing.
+// `cases` reads its lines alike. A crate for both would be a library that allocates.
 fn answer(rt: &HostRuntime, line: &str) -> anyhow::Result<()> {
     let mut words = line.split_whitespace();
     let (Some(name), Some(scope), Some(number)) = (words.next(), words.next(), words.next()) else {

@@ -99,6 +99,8 @@ impl Laid {
         }
     }
 
+    // A part's row with its places: a struct of them would be made for this call alone, at its two callers.
+
     /// Orders the top events of two parts, where they are in order, and gives them all. Those of the earlier part lie from `from` on and below
     /// `to`.
     pub(crate) fn order(

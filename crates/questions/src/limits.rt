@@ -18,7 +18,7 @@ pub const MOST_TYPE: u16 = 99;
 /// The largest count that a repetition states, least or most.
 pub const MOST_TIMES: u8 = 15;
 
-/// The "most" of a repetition that stands for the scope.
+/// The "most" of a repetition that stands for the scope. A number and no `Option`, as it stands in a table, and in a pattern.
 pub const SCOPE_MARK: u8 = 255;
 
 /// How many candidates a pattern, a root or a schema counts at most.

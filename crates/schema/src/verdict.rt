@@ -40,6 +40,8 @@ pub(crate) fn passed(bytes: &[u8], scope: u8) -> Result<Progress, Refusal>
     Ok(progress)
 }
 
+// Bytes and scope stay two parameters: a caller has them apart, and a `Checked` is what has both.
+
 /// The number of candidates that a table has at a scope, with the caller's plan filled, or the first question that fails; then the plan
 /// stays as it was.
 pub fn check(table: &[u8], scope: u8, plan: &mut Plan) -> Result<u32, Refusal>
