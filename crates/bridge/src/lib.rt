@@ -12,7 +12,7 @@ ghost use Rattle.schema.specs.Told.{table_of};
 use laying::lay;
 use schema::{Checked, Plan, check};
 
-// Answers are numbers, since nothing else crosses to C: a refusal is packed into one, and a refused table lays 0 events.
+// Answers are numbers, since only numbers and byte slices cross to C: a refusal is packed into one, and a refused table lays 0 events.
 
 /// The total of a table at a scope; where the table is refused, 2^32 times the question's number, and the item added.
 pub fn mandolkhui_check(table: &[u8], scope: u8) -> u64
@@ -25,6 +25,8 @@ pub fn mandolkhui_check(table: &[u8], scope: u8) -> u64
             + u64::from(refusal.item_shown()),
     }
 }
+
+// Named by bytes and scope, as for `lay`.
 
 /// How many events a candidate lays, all its roots together; none where there is no such candidate.
 fn events_at(schema: &Checked, number: u32) -> u64

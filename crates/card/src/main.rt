@@ -20,6 +20,7 @@ fn scope_of(rt: &HostRuntime) -> anyhow::Result<u8> {
     Ok(scope_said(first.as_bytes()))
 }
 
+// `laid` reads its input alike; see there.
 fn run(rt: &HostRuntime) -> anyhow::Result<()> {
     let scope = scope_of(rt)?;
     let mut table = Vec::new(rt.alloc());

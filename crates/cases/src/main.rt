@@ -7,6 +7,7 @@ use anyhow::anyhow;
 use lines::card_of;
 
 /// Answers one line.
+// `lay_cases` reads its lines alike; see there.
 fn answer(rt: &HostRuntime, line: &str) -> anyhow::Result<()> {
     let mut words = line.split_whitespace();
     let (Some(name), Some(scope)) = (words.next(), words.next()) else {

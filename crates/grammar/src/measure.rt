@@ -122,6 +122,7 @@ impl Measure {
     }
 
     /// Of this pattern from `least` to `most` times.
+    // They stay two numbers: an item has its most as written, this call as the scope reads it.
     pub fn repeat(self, least: u8, most: u8) -> Measure
         ensures { result ≡ repeat_measure least most self }
     {

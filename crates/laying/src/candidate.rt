@@ -38,7 +38,8 @@ fn lay_root(schema: &Checked, root: Root, number: u32, laid: &mut Laid)
     );
 }
 
-// The clause names the bytes of a table and its scope, as the definitions do, which know of no `Checked`.
+// The clause names the bytes of a table and its scope, as `laid_at` does, which knows of no `Checked`. `numbers` is a pair, as it was: the
+// theorems stand in the clauses they stood in.
 
 /// Lays the first roots of a candidate; none where there is no such candidate or not as many roots, or no root is asked for.
 pub fn lay(schema: &Checked, number: u32, roots: usize) -> Option<Laid>

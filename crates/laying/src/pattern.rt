@@ -1,5 +1,5 @@
 //! The patterns of a checked table, laid by their numbers. Each item lays what earlier items end, so the item's index falls. A pattern is
-//! its items and no `Box`, since a library allocates nothing.
+//! its items and no `Box`, since laying allocates nothing.
 
 ghost use Rattle.std.specs.Prelude.{◌+◌, ◌≤◌};
 ghost use Rattle.questions.specs.Limits.{most_events};
@@ -23,7 +23,8 @@ pub(crate) struct Run {
 }
 
 /// Lays the choice that the pattern of item `i` has at a number, and gives its top events.
-// No struct of what both functions pass on: `around` changes with each event around, and table and events would be joined for these two alone.
+// No struct of what both functions pass on: `around` changes with each event around, and table and events would be joined inside laying alone.
+// `room` is one inequality in three contracts: a name for it would hide what callers add up.
 #[cycle(lay_pattern_lay_run)]
 pub(crate) fn lay_pattern(
     schema: &Checked,

@@ -52,6 +52,7 @@ fn write_events<P: Page>(page: &mut P, laid: &Laid) -> Result<(), P::Error>
 }
 
 /// Writes the lines of the candidate of this number.
+// Named by bytes and scope, as for `lay`.
 fn write_number<P: Page>(
     page: &mut P,
     schema: &Checked,
@@ -60,7 +61,8 @@ fn write_number<P: Page>(
     ensures written { OnOk result
         (P.adds page.old (number_lines (table_of schema.now) schema.now.scope number) page.new) }
     ensures short { OnOk result
-        (length (number_lines (table_of schema.now) schema.now.scope number) ≤ most_line * most_events) }
+        (length (number_lines (table_of schema.now) schema.now.scope number)
+        ≤ most_line * most_events) }
 {
     match number.and_then(|number| lay(schema, number, schema.roots())) {
         Some(laid) => write_events(page, &laid),

@@ -9,6 +9,7 @@ use std::convert::Infallible;
 use text::Text;
 
 /// What words are added to.
+// Words and numbers one by one: what is displayed may fail as far as `fmt::Write` says, and text in fixed room never does.
 pub(crate) trait Page {
     /// Why a word is not added.
     type Error;

@@ -23,6 +23,7 @@ fn bytes_of(table: &[u8]) -> [u8; MOST_BYTES]
 
 impl Checked {
     /// Checks a table at a scope: what it holds then, or the first question that fails.
+    // Bytes and scope are two parameters, as in `check`.
     pub fn of(table: &[u8], scope: u8) -> Result<Checked, Refusal>
         ensures answer { told result ≡ verdict table.now scope }
         ensures table { IfOk result (λ c. table_of c ≡ table.now) }

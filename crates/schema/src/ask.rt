@@ -16,6 +16,7 @@ pub(crate) fn ask_opening(bytes: &[u8], scope: u8) -> Result<(), Question>
     if bytes.len() < 4 {
         return Err(Question::Bytes);
     }
+    // At their places, since there is no `Table` before this passes.
     let items = usize::from(word_at(bytes, 0));
     let roots = usize::from(word_at(bytes, 2));
     if bytes.len() != 4 + 3 * items {

@@ -110,6 +110,7 @@ impl Progress {
     }
 
     /// Asks questions 4 to 9 of item `i`, and counts it where none fails.
+    // An item is its number, as in `Table::item`.
     pub(crate) fn take(&mut self, table: &Table, i: usize) -> Result<(), Question>
         requires within { i < item_count table.now }
         requires holds { Holds table.now i self.old }

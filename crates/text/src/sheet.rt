@@ -9,7 +9,7 @@ use std::marker::Model;
 pub const TEXT_ROOM: usize = 2048;
 
 /// The first `len` bytes are the text.
-// An array with its length beside: an `ArrayVec` would answer each push that has no room with an error, to be thrown away.
+// An array with its length beside: an `ArrayVec` takes a slice by `try_extend_from_slice` alone, whose error would be thrown away.
 #[derive(Drop)]
 pub struct Text {
     bytes: [u8; TEXT_ROOM],
