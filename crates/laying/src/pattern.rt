@@ -23,7 +23,8 @@ pub(crate) struct Run {
 }
 
 /// Lays the choice that the pattern of item `i` has at a number, and gives its top events.
-// No struct of what both functions pass on: `around` changes with each event around, and table and events would be joined inside laying alone.
+// No struct of what both functions pass on: `around` changes with each event around, and table and events would be joined inside laying
+// alone.
 // `room` is one inequality in three contracts: a name for it would hide what callers add up.
 #[cycle(lay_pattern_lay_run)]
 pub(crate) fn lay_pattern(

@@ -11,7 +11,8 @@ use std::alloc::{AllocError, Global};
 use text::Text;
 
 /// Writes the line of an entry of the plan, where it is a root.
-// `short` stands beside what is written, here and for the other lines, since the types of the numbers bound their digits, and a definition has no types.
+// `short` stands beside what is written, here and for the other lines, since the types of the numbers bound their digits, and a definition
+// has no types.
 fn write_root<P: Page>(page: &mut P, root: Root) -> Result<(), P::Error>
     ensures written { OnOk result (P.adds page.old (entry_line root) page.new) }
     ensures short { OnOk result (length (entry_line root) ≤ most_line) }

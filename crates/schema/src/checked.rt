@@ -11,7 +11,7 @@ use crate::plan::Plan;
 use questions::limits::MOST_BYTES;
 
 /// A table that passed all questions at a scope: its bytes, its total, the plan of its roots and the measures of its items.
-// The bytes are an array with their number beside it: an `ArrayVec` would answer the copy with an error for what no accepted table does.
+// The bytes are an array with their number beside it: an `ArrayVec` would answer their copy with an error, which no accepted table can cause.
 #[derive(Drop)]
 pub struct Checked {
     pub(crate) bytes: [u8; MOST_BYTES],

@@ -55,6 +55,7 @@ impl<'a> Table<'a> {
 
     // An item has no type of its own that says it is there: it is an index with its bound, as in a slice.
 
+    /// The argument of item `i`.
     pub(crate) fn argument(&self, i: usize) -> u16
         requires { i < item_count self.now }
         ensures { result ≡ argument_at self.now i }
@@ -62,6 +63,7 @@ impl<'a> Table<'a> {
         word_at(self.bytes, 4 + self.items() + 2 * i)
     }
 
+    /// Item `i`. Any item that there is shows that the table is sized.
     pub(crate) fn item(&self, i: usize) -> Item
         requires { i < item_count self.now }
         ensures item { result ≡ item_at self.now i }

@@ -1,6 +1,6 @@
 use Rattle.std.proofs.Common.{rules, ap₂, ◌≡◌, ℕ, suc, ◌-◌, ◌<◌, Some, Ok, Err, Result, refl, sym, ap, ◌∙◌, add-one, arith, subst}
-use Rattle.std.proofs.lemmas.Result.{err_from_is_err_and}
-use Rattle.std.specs.Result.{MatchResult, IsErrAnd, OnOk}
+use Rattle.std.proofs.lemmas.Result.{MatchResult-at_ok, err_from_is_err_and}
+use Rattle.std.specs.Result.{MatchResult, IsErrAnd}
 use Rattle.questions.specs.declared.question.Question.{Question}
 use Rattle.questions.specs.declared.refusal.Refusal.{Refusal}
 use Rattle.items.specs.Asked.{Answer, passes}
@@ -36,9 +36,6 @@ module _ (R : Question → Refusal → Type 0) (m : Result (Unit {0}) Refusal) w
   yes_from (Ok v) u h is = refl
   yes_from (Err q) u h is = absurd (subst (λ x. IsErrAnd x (R q)) is h)
 
-on_yes : (r : Answer) (P : Type 0) → r ≡ passes → OnOk r P → P
-on_yes r P e h = subst (λ x. OnOk x P) e h
-
 pub returns-in_err-map_err-clause-err : goal.returns-in_err-map_err-clause-err
 returns-in_err-map_err-clause-err c =
     let b = c.args.bytes.now in
@@ -57,11 +54,11 @@ loop-i-preserved c =
     let y = yes_from _ c.map_err.result c.take.result c.in_ok-map_err.field-0 c.map_err.ensures.cases c.in_ok-map_err.was in
     let a : asks b c.args.scope i ≡ passes = ap₂ (λ t s. asks t s i) (sym c.of-table.ensures) (sym c.loop-i.invariant.1) ∙ (sym c.take.ensures.answer ∙ y) in
     rw add-one (
-      subst (λ t. Holds t (suc i) c.take.new.self) c.of-table.ensures (on_yes c.take.result _ y c.take.ensures.goes),
-      on_yes c.take.result _ y c.take.ensures.scope ∙ c.loop-i.invariant.1,
+      subst (λ t. Holds t (suc i) c.take.new.self) c.of-table.ensures (MatchResult-at_ok _ _ _ y c.take.ensures.goes),
+      MatchResult-at_ok _ _ _ y c.take.ensures.scope ∙ c.loop-i.invariant.1,
       c.loop-i.invariant.2 ∙ from_more b c.args.scope i (item_count b) lt a,
       subst (λ t. KnowsMade t c.loop-i.progress.scope c.loop-i.progress.known → KnowsMade t c.take.new.self.scope c.take.new.self.known) c.of-table.ensures
-          (on_yes c.take.result _ y c.take.ensures.made) c.loop-i.invariant.3,
+          (MatchResult-at_ok _ _ _ y c.take.ensures.made) c.loop-i.invariant.3,
     )
 
 pub returns-clause-ok : goal.returns-clause-ok
