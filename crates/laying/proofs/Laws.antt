@@ -5,6 +5,8 @@ use borrow.Rule.Slice.PartMut.{put_mid}
 use Rattle.std.proofs.lemmas.Bool.{cases_Bool}
 use Rattle.std.proofs.lemmas.List.{map-append, take_more_set, drop-set-lt, drop_more, take-append-drop, length-take-le, length-drop}
 use Rattle.rows.specs.Bits.{bit, among, mask}
+use Rattle.rows.specs.Row.{value, row_of}
+use Rattle.rows.specs.declared.row.Row.{Row}
 use Rattle.rows.proofs.Bits.{or_assoc, mask_append, bit_mask}
 use Rattle.grammar.specs.declared.part.Order.{Order}
 use Rattle.grammar.specs.declared.part.Order.TheVariants.{InOrder, AsSet}
@@ -34,7 +36,7 @@ row_none (x ∷ xs) (suc a) = row_none xs a
 pushed_rows : (t : ℕ) (p : Option ℕ) (old new : Laid) → Pushed t p old new → (a : ℕ) → row_at new a ≡ row_at old a
 pushed_rows t p old new u a =
     ap (λ es. get_or (rows_in es) a 0) u.events
-    ∙ (ap (λ rs. get_or rs a 0) (map-append (λ (e : LaidEvent). e.precedes) (laid_events old) _) ∙ row_none (rows_in (laid_events old)) a)
+    ∙ (ap (λ rs. get_or rs a 0) (map-append (λ (e : LaidEvent). value e.precedes) (laid_events old) _) ∙ row_none (rows_in (laid_events old)) a)
 
 -- Ordering two parts.
 
@@ -49,11 +51,11 @@ module _ (x y : ℕ) where
       ∙ ap (λ v. take i es ++ v) (ap (λ v. v ∷ preceding x y (suc (n + i)) (drop (i + 1) es)) g ∙ ap (preceding x y (n + i)) (sym (drop_more es i d lt))))
 
   -- an event that the row has, and one that it does not have
-  pub preceding_yes : (n : ℕ) (e : LaidEvent) (r : ℕ) → bit x n ≡ true → r ≡ bit_or e.precedes y → record e { precedes = r } ≡ preceding_at x y n e
-  preceding_yes n e r h f = ap (λ k. record e { precedes = k }) (f ∙ sym (ap (λ b. bit_or e.precedes (cond b y 0)) h))
+  pub preceding_yes : (n : ℕ) (e : LaidEvent) (r : Row) → bit x n ≡ true → value r ≡ bit_or (value e.precedes) y → record e { precedes = r } ≡ preceding_at x y n e
+  preceding_yes n e r h f = ap (λ k. record e { precedes = row_of k }) (f ∙ sym (ap (λ b. bit_or (value e.precedes) (cond b y 0)) h))
 
   pub preceding_not : (n : ℕ) (e : LaidEvent) → bit x n ≡ false → preceding_at x y n e ≡ e
-  preceding_not n e h = ap (λ r. record e { precedes = r }) (ap (λ b. bit_or e.precedes (cond b y 0)) h ∙ or_zero_r e.precedes)
+  preceding_not n e h = ap (λ r. record e { precedes = row_of r }) (ap (λ b. bit_or (value e.precedes) (cond b y 0)) h ∙ or_zero_r (value e.precedes))
 
   preceding_none : (n : ℕ) (es : List LaidEvent) → ((a : ℕ) → n ≤ a → a < n + length es → bit x a ≡ false) → preceding x y n es ≡ es
   preceding_none n [] h = refl
@@ -117,7 +119,7 @@ module _ (x y : ℕ) where
   preceding_rows : (n : ℕ) (es : List LaidEvent) (a : ℕ) → (bit x (n + a) ≡ true → a < length es)
       → get_or (rows_in (preceding x y n es)) a 0 ≡ bit_or (get_or (rows_in es) a 0) (cond (bit x (n + a)) y 0)
   preceding_rows n [] a h = elim (cases_Bool (bit x (n + a))) [ inl t ↦ absurd (omega (arith, h t)) | inr f ↦ sym (ap (λ b. cond b y 0) f) ]
-  preceding_rows n (e ∷ es) zero h = ap (λ k. bit_or e.precedes (cond (bit x k) y 0)) (sym (add-zero n))
+  preceding_rows n (e ∷ es) zero h = ap (λ k. bit_or (value e.precedes) (cond (bit x k) y 0)) (sym (add-zero n))
   preceding_rows n (e ∷ es) (suc a) h =
       let next : suc n + a ≡ n + suc a = omega arith in
       preceding_rows (suc n) es a (λ t. omega (arith, h (sym (ap (bit x) next) ∙ t))) ∙ ap (λ k. bit_or (get_or (rows_in es) a 0) (cond (bit x k) y 0)) next

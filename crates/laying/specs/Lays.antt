@@ -1,6 +1,7 @@
 -- What laying a choice adds to what is laid. Assumes nothing.
 use Rattle.std.specs.Prelude.{◌≡◌, ℕ, suc, ◌+◌, ◌<◌, ◌≤◌, true, if◌then◌else◌, List, [], ◌∷◌, ◌++◌, map, take, Option, bit_or, slice_index}
 use Rattle.rows.specs.Bits.{bit, mask}
+use Rattle.rows.specs.Row.{value, row_of, no_row}
 use Rattle.grammar.specs.declared.part.Order.{Order}
 use Rattle.grammar.specs.declared.part.Order.TheVariants.{InOrder, AsSet}
 use Rattle.numbering.specs.Choice.{Choice}
@@ -22,7 +23,7 @@ abbrev pub around_in : List LaidEvent → List (Option ℕ)
 around_in es = map (λ e. e.around) es
 
 abbrev pub rows_in : List LaidEvent → List ℕ
-rows_in es = map (λ e. e.precedes) es
+rows_in es = map (λ e. value e.precedes) es
 
 -- what a value of the code shows
 unfoldable pub shown : Laid → Beginning
@@ -40,13 +41,13 @@ row_at l a = slice_index (rows_in (laid_events l)) a
 -- one event of type t is added, p the nearest around it
 pub record Pushed (t : ℕ) (p : Option ℕ) (old new : Laid) : Type 0 where
   pub len : new.len ≡ old.len + 1
-  pub events : laid_events new ≡ laid_events old ++ (record { event = t; around = p; precedes = 0 } ∷ [])
+  pub events : laid_events new ≡ laid_events old ++ (record { event = t; around = p; precedes = no_row } ∷ [])
   pub roots : new.roots ≡ old.roots
   pub starts : new.starts ≡ old.starts
 
 -- the event at place n, when each event of the row x precedes those of the row y too
 abbrev pub preceding_at : ℕ → ℕ → ℕ → LaidEvent → LaidEvent
-preceding_at x y n e = record e { precedes = bit_or e.precedes (if bit x n then y else 0) }
+preceding_at x y n e = record e { precedes = row_of (bit_or (value e.precedes) (if bit x n then y else 0)) }
 
 -- the events from place n on, likewise
 abbrev pub preceding : ℕ → ℕ → ℕ → List LaidEvent → List LaidEvent

@@ -2,6 +2,7 @@
 
 ghost use Rattle.std.specs.Prelude.{◌≡◌, ◌+◌, ◌^◌, ◌<◌, ◌≤◌, length, [], bit_or};
 ghost use Rattle.questions.specs.Limits.{most_events, most_roots};
+ghost use Rattle.rows.specs.Row.{value, no_row};
 
 use grammar::Order;
 use questions::limits::{MOST_EVENTS, MOST_ROOTS};
@@ -18,7 +19,7 @@ pub struct LaidEvent {
 impl LaidEvent {
     /// An event that precedes none yet.
     fn new(event: u8, around: Option<u8>) -> LaidEvent
-        ensures { result ≡ record { event = event; around = around; precedes = 0 } }
+        ensures { result ≡ record { event = event; around = around; precedes = no_row } }
     {
         LaidEvent {
             event,
@@ -32,10 +33,10 @@ impl LaidEvent {
 // How many there are stands beside the arrays, because a vector of fixed room is not Copy, and a beginning is.
 #[derive(Clone, Copy)]
 pub struct Laid {
-    pub(crate) events: [LaidEvent; MOST_EVENTS],
-    pub(crate) len: usize,
-    pub(crate) starts: [u8; MOST_ROOTS],
-    pub(crate) roots: usize,
+    pub events: [LaidEvent; MOST_EVENTS],
+    pub len: usize,
+    pub starts: [u8; MOST_ROOTS],
+    pub roots: usize,
     ghost events_few: { len ≤ most_events },
     ghost events_here: { len ≤ length events },
     ghost roots_few: { roots ≤ most_roots },
@@ -79,7 +80,7 @@ impl Laid {
     pub(crate) fn push(&mut self, event: u8, around: Option<u8>) -> Row
         requires { self.old.len < most_events }
         ensures pushed { Pushed event around self.old self.new }
-        ensures top { result ≡ 2 ^ self.old.len }
+        ensures top { value result ≡ 2 ^ self.old.len }
     {
         let place = self.len;
         self.events[place] = LaidEvent::new(event, around);
@@ -90,7 +91,7 @@ impl Laid {
     /// Lets the events of `earlier` precede those of `later`, among these, which lie from `from` on.
     fn precede(events: &mut [LaidEvent], from: usize, earlier: Row, later: Row)
         requires { from + length events.old ≤ most_events }
-        ensures { events.new ≡ preceding earlier later from events.old }
+        ensures { events.new ≡ preceding (value earlier) (value later) from events.old }
     {
         for (i, event) in events.iter_mut().enumerate() {
             if earlier.has(from + i) {
@@ -112,9 +113,9 @@ impl Laid {
         later: Row,
     ) -> Row
         requires places { to ≤ self.old.len }
-        requires between { Between from to earlier }
-        ensures ordered { Ordered order earlier later self.old self.new }
-        ensures tops { result ≡ bit_or earlier later }
+        requires between { Between from to (value earlier) }
+        ensures ordered { Ordered order (value earlier) (value later) self.old self.new }
+        ensures tops { value result ≡ bit_or (value earlier) (value later) }
     {
         match order {
             Order::InOrder => {

@@ -3,6 +3,7 @@
 
 ghost use Rattle.std.specs.Prelude.{◌+◌, ◌≤◌};
 ghost use Rattle.questions.specs.Limits.{most_events};
+ghost use Rattle.rows.specs.Row.{value};
 ghost use Rattle.laying.specs.Layable.{choice_at, longest, Layable, run_choice, longest_run, LayableRun};
 ghost use Rattle.laying.specs.Lays.{LaysTop};
 
@@ -37,7 +38,7 @@ pub(crate) fn lay_pattern(
     requires layable { Layable schema.now i number }
     requires room { laid.old.len + longest schema.now i ≤ most_events }
     ensures { LaysTop around (choice_at schema.now i number) (longest schema.now i)
-        laid.old laid.new result }
+        laid.old laid.new (value result) }
 {
     match schema.item(i) {
         Item::Nothing => Row::none(),
@@ -80,7 +81,7 @@ fn lay_run(schema: &Checked, i: usize, run: Run, around: Option<u8>, laid: &mut 
     requires runs { LayableRun schema.now i run }
     requires room { laid.old.len + longest_run schema.now i run ≤ most_events }
     ensures { LaysTop around (run_choice schema.now i run) (longest_run schema.now i run)
-        laid.old laid.new result }
+        laid.old laid.new (value result) }
 {
     if run.left.times == 0 {
         return Row::none();

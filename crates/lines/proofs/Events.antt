@@ -3,6 +3,7 @@ use Rattle.std.proofs.Common.{◌≡◌, ℕ, ◌+◌, ◌<◌, List, ◌++◌, 
 use Rattle.std.proofs.lemmas.List.{get_or-map, length-map}
 use Rattle.questions.specs.declared.refusal.Refusal.{Refusal}
 use Rattle.questions.specs.Numbers.{refusal_line}
+use Rattle.rows.specs.Row.{value}
 use Rattle.schema.specs.Questions.{verdict}
 use Rattle.laying.specs.Lays.{laid_events, shown}
 use Rattle.laying.specs.declared.laid.Laid.{Laid}
@@ -12,15 +13,15 @@ use Rattle.lines.specs.Laid.{event_line, line_at, first_lines, event_lines, numb
 
 module _ (l : Laid) (i : ℕ) where
   -- the event at place i
-  shown_line : (e : LaidEvent) → i < length (laid_events l) → e ≡ get_or (laid_events l) i e → line_at (shown l) i ≡ event_line e.event e.around e.precedes
+  shown_line : (e : LaidEvent) → i < length (laid_events l) → e ≡ get_or (laid_events l) i e → line_at (shown l) i ≡ event_line e.event e.around (value e.precedes)
   unfolding shown
   shown_line e h is =
-      (λ k. event_line (get_or-map (λ x. x.event) (laid_events l) i e 0 h k) (get_or-map (λ x. x.around) (laid_events l) i e None h k) (get_or-map (λ x. x.precedes) (laid_events l) i e 0 h k))
-      ∙ ap (λ (x : LaidEvent). event_line x.event x.around x.precedes) (sym is)
+      (λ k. event_line (get_or-map (λ x. x.event) (laid_events l) i e 0 h k) (get_or-map (λ x. x.around) (laid_events l) i e None h k) (get_or-map (λ x. value x.precedes) (laid_events l) i e 0 h k))
+      ∙ ap (λ (x : LaidEvent). event_line x.event x.around (value x.precedes)) (sym is)
 
   -- one event more
   pub shown_more : (e : LaidEvent) → i < length (laid_events l) → e ≡ get_or (laid_events l) i e
-      → first_lines (shown l) (i + 1) ≡ first_lines (shown l) i ++ event_line e.event e.around e.precedes
+      → first_lines (shown l) (i + 1) ≡ first_lines (shown l) i ++ event_line e.event e.around (value e.precedes)
   shown_more e h is = ap (first_lines (shown l)) (add-one i) ∙ ap (λ x. first_lines (shown l) i ++ x) (shown_line e h is)
 
   -- and all

@@ -2,6 +2,7 @@
 
 ghost use Rattle.std.specs.Prelude.{◌≡◌, ◌*◌, ◌≤◌, OnOk, length};
 ghost use Rattle.questions.specs.Limits.{most_events};
+ghost use Rattle.rows.specs.Row.{value};
 ghost use Rattle.schema.specs.Told.{table_of};
 ghost use Rattle.laying.specs.Lays.{shown};
 ghost use Rattle.lines.specs.Card.{most_line};
@@ -27,9 +28,9 @@ fn write_around<P: Page>(page: &mut P, around: Option<u8>) -> Result<(), P::Erro
 /// Writes the line of an event.
 fn write_event<P: Page>(page: &mut P, event: LaidEvent) -> Result<(), P::Error>
     ensures written { OnOk result
-        (P.adds page.old (event_line event.event event.around event.precedes) page.new) }
+        (P.adds page.old (event_line event.event event.around (value event.precedes)) page.new) }
     ensures short { OnOk result
-        (length (event_line event.event event.around event.precedes) ≤ most_line) }
+        (length (event_line event.event event.around (value event.precedes)) ≤ most_line) }
 {
     page.add_number(u64::from(event.event))?;
     page.add(" ")?;

@@ -1,5 +1,6 @@
 use Rattle.std.proofs.Common.{codes, decimal, arith}
 use Rattle.std.proofs.lemmas.Result.{on_ok_weaker}
+use Rattle.rows.specs.Row.{value}
 use Rattle.lines.specs.Card.{line_end}
 use Rattle.lines.specs.Laid.{around_word}
 use Rattle.lines.proofs.Short.{short_event}
@@ -15,10 +16,10 @@ returns-clause-written g c =
     (then _ _ _ (codes " ") _ c.in_ok-add.ensures
     (then _ _ _ (around_word e.around) _ c.in_ok-write_around.ensures.written
     (then _ _ _ (codes " ") _ c.in_ok-add-2.ensures
-    (then _ _ _ (decimal e.precedes) line_end (rw c.number.ensures at c.in_ok-add_number-2.ensures) last)))))
+    (then _ _ _ (decimal (value e.precedes)) line_end (rw c.number.ensures at c.in_ok-add_number-2.ensures) last)))))
     c.add-3.ensures
 
 pub returns-clause-short : goal.returns-clause-short
 returns-clause-short g c =
     let e = c.args.event in
-    on_ok_weaker c.add-3.result (λ _. short_event e.event e.around e.precedes (omega arith) c.in_ok-write_around.ensures.short (omega (arith, c.number.ensures))) c.add-3.ensures
+    on_ok_weaker c.add-3.result (λ _. short_event e.event e.around (value e.precedes) (omega arith) c.in_ok-write_around.ensures.short (omega (arith, c.number.ensures))) c.add-3.ensures
