@@ -76,7 +76,8 @@ pub fn card_of(heap: Global, table: &[u8], scope: u8) -> Result<String, AllocErr
 
 /// The card of a table at a scope in fixed room, without allocation.
 pub fn card_text(table: &[u8], scope: u8) -> Text
-    ensures { result ≡ card table.now scope }
+    ensures says { result ≡ card table.now scope }
+    ensures within { length result ≤ text_room }
 {
     let mut page = Text::new();
     let Ok(()) = write_card(&mut page, table, scope);

@@ -4,6 +4,7 @@ ghost use Rattle.std.specs.Prelude.{◌≡◌, ◌*◌, ◌≤◌, OnOk, length}
 ghost use Rattle.questions.specs.Limits.{most_events};
 ghost use Rattle.rows.specs.Row.{value};
 ghost use Rattle.schema.specs.Told.{table_of};
+ghost use Rattle.text.specs.Room.{text_room};
 ghost use Rattle.laying.specs.Lays.{shown};
 ghost use Rattle.lines.specs.Card.{most_line};
 ghost use Rattle.lines.specs.Laid.{around_word, event_line, event_lines, number_lines, laid_text};
@@ -73,7 +74,8 @@ fn write_number<P: Page>(
 
 /// The events that a candidate of a table lays at a scope.
 pub fn laid_text(table: &[u8], scope: u8, number: Option<u32>) -> Text
-    ensures { result ≡ laid_text table.now scope number }
+    ensures says { result ≡ laid_text table.now scope number }
+    ensures within { length result ≤ text_room }
 {
     let mut page = Text::new();
     let written = match Checked::of(table, scope) {

@@ -1,9 +1,11 @@
 //! What lines are written to: a text in fixed room, or one on the heap.
 
 ghost use Rattle.std.specs.Prelude.{◌≡◌, ℕ, ◌≤◌, List, [], ◌++◌, OnOk, length, decimal, string_bytes};
+ghost use Rattle.questions.specs.Numbers.{refusal_line};
 ghost use Rattle.text.specs.Room.{text_room, kept};
 ghost use Rattle.text.proofs.Kept.{kept_then, kept_fits, kept_text};
 
+use questions::Refusal;
 use std::alloc::AllocError;
 use std::convert::Infallible;
 use text::Text;
@@ -24,6 +26,10 @@ pub(crate) trait Page {
     /// Adds a number in decimal.
     fn add_number(&mut self, n: u64) -> Result<(), Self::Error>
         ensures { OnOk result (adds self.old (decimal n) self.new) };
+
+    /// Adds the words of a refusal.
+    fn add_refusal(&mut self, refusal: Refusal) -> Result<(), Self::Error>
+        ensures { OnOk result (adds self.old (refusal_line refusal) self.new) };
 
     ghost adds_nothing: { (p : Self) → adds p [] p };
 
@@ -51,6 +57,15 @@ impl Page for Text {
         self.push_decimal(n);
         Ok(())
     }
+
+    // Word by word, though `Refusal` displays so: what is displayed may fail, and this never does.
+    fn add_refusal(&mut self, refusal: Refusal) -> Result<(), Infallible> {
+        self.push_all(b"no ");
+        self.push_decimal(u64::from(refusal.question.number()));
+        self.push(b' ');
+        self.push_decimal(u64::from(refusal.item_shown()));
+        Ok(())
+    }
 }
 
 /// The heap may have no room.
@@ -72,5 +87,9 @@ impl Page for String {
 
     fn add_number(&mut self, n: u64) -> Result<(), AllocError> {
         write!(self, "{n}")
+    }
+
+    fn add_refusal(&mut self, refusal: Refusal) -> Result<(), AllocError> {
+        write!(self, "{refusal}")
     }
 }

@@ -8,14 +8,13 @@ use crate::page::Page;
 use questions::Refusal;
 
 /// Writes `no QUESTION ITEM`, and ends the line.
-// `Refusal` displays so too, but what is displayed may fail as far as `fmt::Write` says, and text in fixed room never does.
 pub(crate) fn write_refusal<P: Page>(page: &mut P, refusal: Refusal) -> Result<(), P::Error>
     ensures written { OnOk result (P.adds page.old (refusal_line refusal ++ line_end) page.new) }
     ensures short { OnOk result (length (refusal_line refusal ++ line_end) ≤ most_line) }
 {
-    page.add("no ")?;
-    page.add_number(u64::from(refusal.question.number()))?;
-    page.add(" ")?;
-    page.add_number(u64::from(refusal.item_shown()))?;
+    // Both numbers have 8 bits, which bounds their digits.
+    let _question = refusal.question.number();
+    let _item = refusal.item_shown();
+    page.add_refusal(refusal)?;
     page.add("\n")
 }

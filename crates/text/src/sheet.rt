@@ -38,7 +38,8 @@ impl Text {
 
     /// Adds a byte.
     pub fn push(&mut self, byte: u8)
-        ensures { self.new ≡ kept (self.old ++ (byte ∷ [])) }
+        ensures pushed { self.new ≡ kept (self.old ++ (byte ∷ [])) }
+        ensures within { length self.old ≤ text_room }
     {
         if self.len < TEXT_ROOM {
             self.bytes[self.len] = byte;
@@ -48,7 +49,8 @@ impl Text {
 
     /// Adds some bytes.
     pub fn push_all(&mut self, more: &[u8])
-        ensures { self.new ≡ kept (self.old ++ more.now) }
+        ensures pushed { self.new ≡ kept (self.old ++ more.now) }
+        ensures within { length self.old ≤ text_room }
     {
         let fits = more.len().min(TEXT_ROOM - self.len);
         let end = self.len + fits;
@@ -59,7 +61,8 @@ impl Text {
     /// Adds a number in decimal: first all digits but the last, where there are more, and then the last.
     // Digit by digit, since what is displayed may fail as far as `fmt::Write` says, and this never does.
     pub fn push_decimal(&mut self, n: u64)
-        ensures { self.new ≡ kept (self.old ++ decimal n) }
+        ensures pushed { self.new ≡ kept (self.old ++ decimal n) }
+        ensures within { length self.old ≤ text_room }
     {
         if n >= 10 {
             self.push_decimal(n / 10);
