@@ -21,6 +21,13 @@ capped_mul x y = min_mul_left (most_candidates + 1) x (count_capped y) ∙ min_m
 pub min_pow_more : (m c k : ℕ) → min (min (c ^ k) m * c) m ≡ min (c ^ (k + 1)) m
 min_pow_more m c k = grind (arith, min_mul_left m (c ^ k) c, pow-suc c k)
 
+pub capped_power_more : (c k : ℕ) → count_capped (count_capped (c ^ k) * c) ≡ count_capped (c ^ (k + 1))
+capped_power_more = min_pow_more (most_candidates + 1)
+
+pub powers_more : (c m a : ℕ) → powers c (suc m) a ≡ powers c m a + c ^ (a + m)
+powers_more c zero a = grind arith
+powers_more c (suc m) a = grind (arith, powers_more c m (suc a))
+
 capped_power : (c k : ℕ) → count_capped (count_capped c ^ k) ≡ count_capped (c ^ k)
 capped_power c zero = grind (arith, pow-zero)
 capped_power c (suc k) = grind (arith, pow-suc (count_capped c) k, pow-suc c k, min_mul_left (most_candidates + 1) (count_capped c ^ k) (count_capped c), capped_power c k, capped_mul (c ^ k) c)

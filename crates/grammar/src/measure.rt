@@ -29,20 +29,24 @@ pub fn product_capped(a: u32, b: u32) -> u32
 }
 
 /// The `k`-th power of a number of choices, as far as one past the limit.
-fn power_capped(c: u32, k: u32) -> u32
+fn power_capped(c: u32, k: u8) -> u32
     ensures { result ≡ count_capped (c ^ k) }
 {
-    count_capped(u64::from(c.saturating_pow(k)))
+    (0..k).fold(1, |power, _i| product_capped(power, c))
 }
 
 /// All powers of `c` from the `least`-th to the `most`-th, added up.
 fn powers_capped(c: u32, least: u8, most: u8) -> u32
     ensures { result ≡ count_capped (powers c (span least most) least) }
 {
-    let sum = (u32::from(least)..u32::from(most) + 1)
-        .map(|k| u64::from(power_capped(c, k)))
-        .sum();
-    count_capped(sum)
+    // Each power is the one before times `c`: counted on its own, it would take as many products as its exponent.
+    let first = power_capped(c, least);
+    let exponents = u32::from(least)..u32::from(most) + 1;
+    let (sum, _next) = exponents.fold((0, first), |(sum, power), _k| {
+        let more = count_capped(u64::from(sum) + u64::from(power));
+        (more, product_capped(power, c))
+    });
+    sum
 }
 
 /// The most of a repetition: the mark stands for the scope.
