@@ -89,6 +89,6 @@ impl Table<'_> {
     pub(crate) fn encloses(&self, event: u16) -> bool
         ensures { result ≡ enclosed self.now event (item_count self.now) }
     {
-        (0..self.items()).fold(false, |found, i| found | encloses(self.item(i), event))
+        (0..self.items()).fold(false, |found, i| encloses(self.item(i), event) || found)
     }
 }
