@@ -40,13 +40,17 @@ fn powers_capped(c: u32, least: u8, most: u8) -> u32
     ensures { result ≡ count_capped (powers c (span least most) least) }
 {
     // Each power is the one before times `c`: counted on its own, it would take as many products as its exponent.
+    // The sum of 256 capped powers fits, so it is capped once, at the end.
     let first = power_capped(c, least);
     let exponents = u32::from(least)..u32::from(most) + 1;
-    let (sum, _next) = exponents.fold((0, first), |(sum, power), _k| {
-        let more = count_capped(u64::from(sum) + u64::from(power));
-        (more, product_capped(power, c))
-    });
-    sum
+    let sum = exponents
+        .scan(first, |power, _k| {
+            let here = *power;
+            *power = product_capped(here, c);
+            Some(u64::from(here))
+        })
+        .sum();
+    count_capped(sum)
 }
 
 /// The most of a repetition: the mark stands for the scope.
