@@ -86,6 +86,7 @@ fn encloses(item: Item, event: u16) -> bool
 
 impl Table<'_> {
     /// Is there an event with an inside, or a root, of type `event` among its items?
+    // All are read, since an accepted table has none: `any`, with its way out at each, takes twice the time.
     pub(crate) fn encloses(&self, event: u16) -> bool
         ensures { result ≡ enclosed self.now event (item_count self.now) }
     {
