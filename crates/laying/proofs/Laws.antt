@@ -199,7 +199,7 @@ lays_pair o p x y A B old mid end new u v ta tb w = record {
   where
     -- the earlier part's top events are laid
     below : (a : ℕ) → bit A a ≡ true → a < length (laid_events end)
-    below a t = omega (arith, (tops_between old.len mid.len x A ta u.len a t).1, v.len, length-take-le end.len end.events end.events_here)
+    below a t = omega (arith, (tops_between old.len mid.len x A ta u.len a t).1, v.len, length-take-le end.len end.events (omega (arith, end.events_few, end.events_here)))
 
     ordered_at : (a : ℕ) → row_at new a ≡ bit_or (row_at end a) (cond (in_order o && bit A a) B 0)
     ordered_at a = ap (λ es. get_or (rows_in es) a 0) w.events ∙ ordered_rows o A B (laid_events end) below a

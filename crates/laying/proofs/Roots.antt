@@ -65,7 +65,7 @@ module _ (xs : List Choice) (l : Laid) (e : shown l ≡ beginning_of xs) where
 
   shown_len : l.len ≡ size (whole xs)
   shown_len =
-      sym (length-take-le l.len l.events l.events_here) ∙ (sym (length-map (laid_events l) _) ∙ (ap length shown_rows ∙ length-map-range_with_len (row (precs 0 (whole xs))) 0 (size (whole xs))))
+      sym (length-take-le l.len l.events (omega (arith, l.events_few, l.events_here))) ∙ (sym (length-map (laid_events l) _) ∙ (ap length shown_rows ∙ length-map-range_with_len (row (precs 0 (whole xs))) 0 (size (whole xs))))
 
 -- the places that a root takes are marked before it is laid
 pub record Marked (old mid : Laid) : Type 0 where
@@ -109,7 +109,7 @@ module _ (x : Choice) (old mid new : Laid) (k : Marked old mid) (y : Lays None x
   new_rows : rows_in (laid_events new) ≡ map (row (precs 0 (whole (xs ++ (x ∷ []))))) (range_with_len 0 (size (whole (xs ++ (x ∷ [])))))
   new_rows =
       fill_by_all (row (precs 0 (whole (xs ++ (x ∷ []))))) (rows_in (laid_events new)) (size (whole (xs ++ (x ∷ [])))) 0
-      (length-map (laid_events new) _ ∙ (length-take-le new.len new.events new.events_here ∙ new_len)) (λ a h. new_row a)
+      (length-map (laid_events new) _ ∙ (length-take-le new.len new.events (omega (arith, new.events_few, new.events_here)) ∙ new_len)) (λ a h. new_row a)
 
   pub one_more_root : shown new ≡ beginning_of (xs ++ (x ∷ []))
   unfolding shown beginning_of

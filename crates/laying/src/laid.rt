@@ -38,7 +38,7 @@ pub struct Laid {
     pub starts: [u8; MOST_ROOTS],
     pub roots: usize,
     ghost events_few: { len ≤ most_events },
-    ghost events_here: { len ≤ length events },
+    ghost events_here: { most_events ≤ length events },
     ghost roots_few: { roots ≤ most_roots },
 }
 

@@ -27,5 +27,5 @@ any_encloses b t (suc n) =
 pub returns : goal.returns
 returns c =
     let b = c.args.self.now in
-    fold_from_yields_List _ (λ x i. encloses (item_at b i) c.args.event || x) _ _ c.fold.ensures.ran (YieldsList-from_range 0 (item_count b) (item_count b) (cc) (omega arith)) (λ a x r q k. search (rules, tests))
+    fold_from_yields_List _ (λ x i. encloses (item_at b i) c.args.event || x) _ _ c.fold.ensures.ran (YieldsList-from_range 0 (item_count b) (item_count b) (ap (λ n. record { start = 0; end = n }) (omega (arith, c.items.ensures))) (omega arith)) (λ a x r q k. search (rules, tests))
     ∙ any_encloses b c.args.event (item_count b)
