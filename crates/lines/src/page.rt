@@ -11,7 +11,8 @@ use std::convert::Infallible;
 use text::Text;
 
 /// What words are added to.
-// Words and numbers one by one: what is displayed may fail as far as `fmt::Write` says, and text in fixed room never does.
+// Words, numbers and refusals by a call each, and not by `fmt::Write`: as far as that says, what is displayed may fail, and a text in fixed
+// room never does.
 pub(crate) trait Page {
     /// Why a word is not added.
     type Error;
@@ -27,7 +28,7 @@ pub(crate) trait Page {
     fn add_number(&mut self, n: u64) -> Result<(), Self::Error>
         ensures { OnOk result (adds self.old (decimal n) self.new) };
 
-    /// Adds the words of a refusal.
+    /// Adds a refusal, in the words that it displays.
     fn add_refusal(&mut self, refusal: Refusal) -> Result<(), Self::Error>
         ensures { OnOk result (adds self.old (refusal_line refusal) self.new) };
 
@@ -58,7 +59,7 @@ impl Page for Text {
         Ok(())
     }
 
-    // Word by word, though `Refusal` displays so: what is displayed may fail, and this never does.
+    // Word by word: what is displayed may fail, as far as `fmt::Write` says, and this never does.
     fn add_refusal(&mut self, refusal: Refusal) -> Result<(), Infallible> {
         self.push_all(b"no ");
         self.push_decimal(u64::from(refusal.question.number()));

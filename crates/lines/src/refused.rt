@@ -12,7 +12,7 @@ pub(crate) fn write_refusal<P: Page>(page: &mut P, refusal: Refusal) -> Result<(
     ensures written { OnOk result (P.adds page.old (refusal_line refusal ++ line_end) page.new) }
     ensures short { OnOk result (length (refusal_line refusal ++ line_end) ≤ most_line) }
 {
-    // Both numbers have 8 bits, which bounds their digits.
+    // Read for `short` alone: that each has 8 bits bounds its digits, and of `add_refusal` only the words are known.
     let _question = refusal.question.number();
     let _item = refusal.item_shown();
     page.add_refusal(refusal)?;
